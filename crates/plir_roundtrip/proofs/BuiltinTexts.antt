@@ -145,7 +145,7 @@ module _ {D K A T E : Type 0} (o : op_set.Ghosts D K A T E) (s : ContextView K A
         at (Some (Own x)) b = absurd b
         at None b = absurd b
 
-  same_levels : (k : ℕ) → HasSame k
+  pub same_levels : (k : ℕ) → HasSame k
   same_levels zero p enough all = absurd (some_room s st (Operation p) enough)
   same_levels (suc k) p enough all = level_step k p (λ q r a. same_levels k q r a) enough all
 

@@ -38,3 +38,11 @@ pub mod UsesGood
 pub mod NoFault
 pub mod SameReadBack
 pub mod BuiltinTexts
+pub mod ToldApart
+pub mod Bodies
+pub mod Flattened
+pub mod Bearers
+pub mod NodesBear
+pub mod WithinStands
+pub mod Climbs
+pub mod Obstructed

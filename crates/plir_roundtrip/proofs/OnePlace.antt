@@ -32,12 +32,12 @@ climb_more up (suc k) (Some m) c e = climb_more up k (up m) c e
 
 module _ {K A T : Type 0} (s : ContextView K A T) (st : IsStanding s) where
   -- a place under a node goes on from one of its children
-  record Goes (i : ℕ) (p : Place) (r n : IRNode) : Type 0 where
-    child : IRNode
-    there : slice_get (children s r) i ≡ Some child
-    below : node_at (children s) child p ≡ Some n
+  pub record Goes (i : ℕ) (p : Place) (r n : IRNode) : Type 0 where
+    pub child : IRNode
+    pub there : slice_get (children s r) i ≡ Some child
+    pub below : node_at (children s) child p ≡ Some n
 
-  goes : (i : ℕ) (p : Place) (r n : IRNode) → node_at (children s) r (i ∷ p) ≡ Some n → Goes i p r n
+  pub goes : (i : ℕ) (p : Place) (r n : IRNode) → node_at (children s) r (i ∷ p) ≡ Some n → Goes i p r n
   goes i p r n e = by (slice_get (children s r) i) refl e
     where
       by : (o : Option IRNode) → slice_get (children s r) i ≡ o

@@ -1,4 +1,4 @@
--- How many levels the arguments of a block and the entries of a dictionary have, one after another.
+-- How many levels the types of values and the entries of a dictionary have, one after another.
 use Rattle.std.proofs.Common.{◌≡◌, ◌↔◌, ℕ, zero, suc, max, ◌+◌, ◌-◌, ◌<◌, ◌≤◌, Bool, true, false, cond, List, [], ◌∷◌}
 use Rattle.std.proofs.Common.{length, drop, map, Option, Some, IsTrue, refl, sym, ap, subst, ◌∙◌, arith}
 use Rattle.std.specs.List.{range_with_len}
@@ -10,17 +10,15 @@ use Rattle.plir_data.specs.TypeTree.{tree_of}
 use Rattle.plir_data.specs.Types.{TypeView}
 use Rattle.plir_data.specs.declared.op_set.OpKind.{OpKind}
 use Rattle.plir_data.specs.declared.op_set.OpSet as op_set
-use Rattle.plir_core.specs.declared.ptr.Ptr.{Ptr}
-use Rattle.plir_core.specs.declared.ptr.BasicBlock.{BasicBlock as BlockKind}
-use Rattle.plir_core.specs.declared.value.DefiningEntity.TheVariants.{Block}
+use Rattle.plir_core.specs.declared.value.DefiningEntity.{DefiningEntity}
 use Rattle.plir_core.specs.declared.value.Value.{Value}
-use Rattle.plir_core.specs.ContextView.{ContextView, arg_types_of}
+use Rattle.plir_core.specs.ContextView.{ContextView, type_of_value, types_from}
 use Rattle.plir_attr_text.specs.Terms.{type_levels, levels, entries_levels}
 use Rattle.plir_attr_text.specs.Writable.{attr_term, entry_terms, type_term}
 use Rattle.plir_print.specs.Dictionaries.{is_shown, shown_of}
-use Rattle.plir_print.specs.ValueNames.{arguments_of}
+use Rattle.plir_print.specs.ValueNames.{values_from}
 use Rattle.plir_roundtrip.specs.Written.{some_type_term}
-use Rattle.plir_roundtrip.specs.WrittenLevels.{entry_level, shown_levels, typed_levels}
+use Rattle.plir_roundtrip.specs.WrittenLevels.{entry_level, shown_levels, value_levels}
 use Rattle.plir_roundtrip.proofs.Asked.{drop_at}
 use Rattle.plir_roundtrip.proofs.Children.{at_row}
 
@@ -46,30 +44,35 @@ module _ {D K A T E : Type 0} (o : op_set.Ghosts D K A T E) (types : List (TypeV
       by true = refl
       by false = omega arith
 
--- ---- the arguments of a block
+-- ---- values
 
 row_long : {X : Type 0} (f : ℕ → X) (a n : ℕ) → length (map f (range_with_len a n)) ≡ n
 row_long f a zero = refl
 row_long f a (suc n) = ap suc (row_long f (a + 1) n)
 
-module _ {K A T : Type 0} (s : ContextView K A T) (b : Ptr BlockKind) where
-  abbrev argument : ℕ → Value
-  argument i = record { entity = Block b; index = i }
+module _ {K A T : Type 0} (s : ContextView K A T) where
+  pub first_value : (vs : List Value) (i : ℕ) (v : Value) (h : ℕ) → slice_get vs i ≡ Some v → type_of_value s v ≡ Some h
+      → value_levels s (drop i vs) ≡ max (type_levels (type_term (tree_of s.types h))) (value_levels s (drop (i + 1) vs))
+  first_value vs i v h at typed =
+      ap (value_levels s) (drop_at vs i v at)
+      ∙ ap (λ z. max (type_levels (some_type_term s.types z)) (value_levels s (drop (i + 1) vs))) typed
 
-  argument_at : (i : ℕ) → i < length (arg_types_of s b) → slice_get (arguments_of s b) i ≡ Some (argument i)
-  argument_at i lt =
-      at_row argument 0 (length (arg_types_of s b)) i lt
-      ∙ ap (λ k. Some (argument k)) (let e : 0 + i ≡ i = omega arith in e)
+  -- those that come from an operation or a block
+  module _ (e : DefiningEntity) where
+    abbrev value : ℕ → Value
+    value i = record { entity = e; index = i }
 
-  pub first_argument : (i h : ℕ) → slice_get (arg_types_of s b) i ≡ Some h
-      → typed_levels s (drop i (arguments_of s b)) ≡
-      max (type_levels (type_term (tree_of s.types h))) (typed_levels s (drop (i + 1) (arguments_of s b)))
-  first_argument i h at =
-      ap (typed_levels s)
-      (drop_at (arguments_of s b) i (argument i) (argument_at i (slice_get_within (arg_types_of s b) i h at)))
-      ∙ ap (λ z. max (type_levels (some_type_term s.types z)) (typed_levels s (drop (i + 1) (arguments_of s b)))) at
+    pub value_there : (i : ℕ) → i < length (types_from s e) → slice_get (values_from s e) i ≡ Some (value i)
+    value_there i lt =
+        at_row value 0 (length (types_from s e)) i lt
+        ∙ ap (λ k. Some (value k)) (let e : 0 + i ≡ i = omega arith in e)
 
-  pub no_argument : (i : ℕ) → length (arg_types_of s b) ≤ i → drop i (arguments_of s b) ≡ []
-  no_argument i le =
-      drop_all i (arguments_of s b) (let n : length (arguments_of s b) ≡ length (arg_types_of s b) =
-      row_long argument 0 (length (arg_types_of s b)) in omega (arith, n, le))
+    pub first_from : (i h : ℕ) → slice_get (types_from s e) i ≡ Some h → value_levels s (drop i (values_from s e)) ≡
+        max (type_levels (type_term (tree_of s.types h))) (value_levels s (drop (i + 1) (values_from s e)))
+    first_from i h at =
+        first_value (values_from s e) i (value i) h (value_there i (slice_get_within (types_from s e) i h at)) at
+
+    pub none_from : (i : ℕ) → length (types_from s e) ≤ i → drop i (values_from s e) ≡ []
+    none_from i le =
+        drop_all i (values_from s e) (let n : length (values_from s e) ≡ length (types_from s e) =
+        row_long value 0 (length (types_from s e)) in omega (arith, n, le))

@@ -1,4 +1,4 @@
--- What the calls of the walk tell that looks for a node that cannot be read.
+-- What the calls of a walk tell that looks for something.
 use Rattle.std.proofs.Common.{◌≡◌, List, [], ◌∷◌, ◌++◌, inl, inr, refl, sym, ap, subst, ◌∙◌}
 use Rattle.std.specs.declared.ops.ControlFlow.{ControlFlow}
 use Rattle.std.specs.declared.ops.ControlFlow.TheVariants.{Continue, Break}
@@ -15,7 +15,7 @@ use Rattle.plir_walk.specs.declared.interruptible.WalkContinue.TheVariants.{Adva
 use Rattle.plir_walk.specs.Calls.{Call, Relation, Chain, nodes_of, NoBreak}
 use Rattle.plir_walk.specs.Tree.{IsUnder}
 use Rattle.plir_walk.specs.Walked.{IsCallUnder, WalkedOver}
-use Rattle.plir_roundtrip.specs.ReadableParts.{IsNodeReadable, AllReadable, IsAnswerAt}
+use Rattle.plir_roundtrip.specs.ReadableParts.{AllReadable, IsLookAnswer, IsNodeReadable}
 
 -- the calls of a list, and the nodes that were called
 module _ {C S B : Type 0} where
@@ -38,75 +38,95 @@ module _ {C S B : Type 0} where
   has_last [] x = inl refl
   has_last (y ∷ xs) x = inr (has_last xs x)
 
-module _ {K A T : Type 0} (s : ContextView K A T) where
-  never_skips : (n : IRNode) (a : ControlFlow (Unit {0}) WalkContinue) → IsAnswerAt s n a → a ≡ Continue Skip → ⊥
-  never_skips n a (inl h) e = let f : Continue Advance ≡ Continue Skip = sym h.1 ∙ e in cc
-  never_skips n a (inr h) e = let f : Break tt ≡ Continue Skip = sym h.1 ∙ e in cc
+-- what an answer of a callback that looks for something tells
+module _ {B : Type 0} (Good : Type 0) (Found : B → Type 0) (a : ControlFlow B WalkContinue) where
+  abbrev answer : WalkContinue → ControlFlow B WalkContinue
+  answer k = Continue k
 
-  -- where it does not break the node can be read, and it breaks only where it cannot
-  goes_on : (n : IRNode) (a : ControlFlow (Unit {0}) WalkContinue) → IsAnswerAt s n a → (a ≡ Break tt → ⊥)
-      → IsNodeReadable s n
-  goes_on n a (inl h) other = h.0
-  goes_on n a (inr h) other = absurd (other h.1)
+  abbrev found : B → ControlFlow B WalkContinue
+  found b = Break b
 
-  breaks_off : (n : IRNode) (a : ControlFlow (Unit {0}) WalkContinue) (u : Unit {0}) → IsAnswerAt s n a → a ≡ Break u
-      → IsNodeReadable s n → ⊥
-  breaks_off n a u (inl h) e r = let f : Continue Advance ≡ Break u = sym h.1 ∙ e in cc
-  breaks_off n a u (inr h) e r = h.0 r
+  never_skips : IsLookAnswer Good Found a → a ≡ Continue Skip → ⊥
+  never_skips (inl h) e = let f : answer Advance ≡ answer Skip = sym h.1 ∙ e in cc
+  never_skips (inr h) e = let f : Break h.0 ≡ Continue Skip = sym h.2 ∙ e in cc
 
-  -- each node under one all of which can be read
-  each_readable : (x n : IRNode) → AllReadable s x → IsUnder (children s) x n → IsNodeReadable s n
-  each_readable x (Operation p) all u = all.ops p u
-  each_readable x (Region r) all u = tt
-  each_readable x (BasicBlock b) all u = all.blocks b u
+  goes_on : IsLookAnswer Good Found a → ((b : B) → a ≡ Break b → ⊥) → Good
+  goes_on (inl h) other = h.0
+  goes_on (inr h) other = absurd (other h.0 h.2)
 
-module _ {K A T S : Type 0} (w : WalkConfig) (post : Relation (ContextView K A T) S (Unit {0}))
-    (told : (c : ContextView K A T) (s : S) (n : IRNode) (a : ControlFlow (Unit {0}) WalkContinue)
-    (c' : ContextView K A T) (s' : S) → post c s n a c' s' → (c' ≡ c) × IsAnswerAt c n a)
+  breaks_off : (b : B) → IsLookAnswer Good Found a → a ≡ Break b → Found b
+  breaks_off b (inl h) e = let f : Continue Advance ≡ Break b = sym h.1 ∙ e in absurd cc
+  breaks_off b (inr h) e =
+      let same : found h.0 ≡ found b = sym h.2 ∙ e in
+      let is : h.0 ≡ b = cc in
+      subst Found is h.1
+
+-- A walk whose callback looks for something at each node: `Good` is what holds where it is not there, and `Found` says
+-- what is found at a node.
+module _ {K A T S B : Type 0} (w : WalkConfig) (post : Relation (ContextView K A T) S B)
+    (Good : ContextView K A T → IRNode → Type 0) (Found : ContextView K A T → IRNode → B → Type 0)
+    (told : (c : ContextView K A T) (s : S) (n : IRNode) (a : ControlFlow B WalkContinue)
+    (c' : ContextView K A T) (s' : S) → post c s n a c' s' → (c' ≡ c) × IsLookAnswer (Good c n) (Found c n) a)
     (c0 : ContextView K A T) (op : Ptr OperationKind) (s0 s1 : S) where
-  each : (xs : List (Call (ContextView K A T) S (Unit {0}))) (c : ContextView K A T) (s : S) (c' : ContextView K A T)
+  abbrev Answered : IRNode → ControlFlow B WalkContinue → Type 0
+  Answered n a = IsLookAnswer (Good c0 n) (Found c0 n) a
+
+  each : (xs : List (Call (ContextView K A T) S B)) (c : ContextView K A T) (s : S) (c' : ContextView K A T)
       (s' : S) → c ≡ c0 → Chain (IsCallUnder look (Operation op) post) c s xs c' s'
-      → (x : Call (ContextView K A T) S (Unit {0})) → Has xs x → IsAnswerAt c0 x.node x.answer
+      → (x : Call (ContextView K A T) S B) → Has xs x → Answered x.node x.answer
   each [] c s c' s' e h x has = absurd has
   each (y ∷ ys) c s c' s' e h x has =
       let t = told y.before y.state y.node y.answer y.after y.left h.2.made in
       let b : y.before ≡ c0 = h.0 ∙ e in
       elim has [
-        | inl q ↦ subst (λ z. IsAnswerAt c0 z.node z.answer) q (subst (λ z. IsAnswerAt z y.node y.answer) b t.1)
+        | inl q ↦
+            subst (λ z. Answered z.node z.answer) q
+            (subst (λ z. IsLookAnswer (Good z y.node) (Found z y.node) y.answer) b t.1)
         | inr k ↦ each ys y.after y.left c' s' (t.0 ∙ b) h.3 x k
       ]
 
-  -- a walk that went to its end has seen that all can be read
+  -- a walk that went to its end has found nothing
   at_end : (k : WalkContinue) → WalkedOver look w post c0 s0 (Operation op) (Continue k) s1 → (n : IRNode)
-      → IsUnder (children c0) (Operation op) n → IsNodeReadable c0 n
+      → IsUnder (children c0) (Operation op) n → Good c0 n
   at_end k h n under =
       let called : Has (nodes_of h.calls) n =
       (h.walk.answers.2 n).1 (
         under,
-        λ out. never_skips c0 out.skipped.0.node out.skipped.0.answer
-            (each h.calls c0 s0 c0 s1 refl h.chain out.skipped.0 out.skipped.1) out.skipped.3,
+        λ out. let x = out.skipped.0 in
+        never_skips (Good c0 x.node) (Found c0 x.node) x.answer
+        (each h.calls c0 s0 c0 s1 refl h.chain x out.skipped.1) out.skipped.3,
       ) in
       let x = call_of h.calls n called in
-      let answer : IsAnswerAt c0 n x.0.answer =
-      subst (λ z. IsAnswerAt c0 z x.0.answer) x.2 (each h.calls c0 s0 c0 s1 refl h.chain x.0 x.1) in
-      goes_on c0 n x.0.answer answer (λ e. none_breaks h.calls h.walk.answers.1 x.0 x.1 tt e)
+      let answer : Answered n x.0.answer =
+      subst (λ z. Answered z x.0.answer) x.2 (each h.calls c0 s0 c0 s1 refl h.chain x.0 x.1) in
+      goes_on (Good c0 n) (Found c0 n) x.0.answer answer (λ b e. none_breaks h.calls h.walk.answers.1 x.0 x.1 b e)
 
-  -- one that was broken off has seen a node that cannot
-  at_break : (u : Unit {0}) → WalkedOver look w post c0 s0 (Operation op) (Break u) s1 → AllReadable c0 (Operation op)
-      → ⊥
-  at_break u h all =
+  -- one that was broken off has found something
+  at_break : (b : B) → WalkedOver look w post c0 s0 (Operation op) (Break b) s1
+      → (n : IRNode) × IsUnder (children c0) (Operation op) n × Found c0 n b
+  at_break b h =
       let last = h.walk.answers.0 in
-      let has : Has h.calls last.1 = subst (λ z. Has z last.1) (sym last.2) (has_last last.0 last.1) in
-      let under = h.walk.in_order.under_root last.1.node (node_called h.calls last.1 has) in
-      breaks_off c0 last.1.node last.1.answer u (each h.calls c0 s0 c0 s1 refl h.chain last.1 has) last.3
-      (each_readable c0 (Operation op) last.1.node all under)
+      let x = last.1 in
+      let has : Has h.calls x = subst (λ z. Has z x) (sym last.2) (has_last last.0 x) in
+      let under = h.walk.in_order.under_root x.node (node_called h.calls x has) in (
+        x.node,
+        under,
+        breaks_off (Good c0 x.node) (Found c0 x.node) x.answer b (each h.calls c0 s0 c0 s1 refl h.chain x has) last.3,
+      )
 
-  pub went_on : (a : ControlFlow (Unit {0}) WalkContinue) (k : WalkContinue) → a ≡ Continue k
-      → WalkedOver look w post c0 s0 (Operation op) a s1 → AllReadable c0 (Operation op)
-  went_on a k e h =
-      let ended = at_end k (subst (λ z. WalkedOver look w post c0 s0 (Operation op) z s1) e h) in
-      record { ops = λ q u. ended (Operation q) u; blocks = λ b u. ended (BasicBlock b) u }
+  pub went_on : (a : ControlFlow B WalkContinue) (k : WalkContinue) → a ≡ Continue k
+      → WalkedOver look w post c0 s0 (Operation op) a s1 → (n : IRNode) → IsUnder (children c0) (Operation op) n
+      → Good c0 n
+  went_on a k e h = at_end k (subst (λ z. WalkedOver look w post c0 s0 (Operation op) z s1) e h)
 
-  pub broke_off : (a : ControlFlow (Unit {0}) WalkContinue) (u : Unit {0}) → a ≡ Break u
-      → WalkedOver look w post c0 s0 (Operation op) a s1 → AllReadable c0 (Operation op) → ⊥
-  broke_off a u e h = at_break u (subst (λ z. WalkedOver look w post c0 s0 (Operation op) z s1) e h)
+  pub broke_off : (a : ControlFlow B WalkContinue) (b : B) → a ≡ Break b
+      → WalkedOver look w post c0 s0 (Operation op) a s1
+      → (n : IRNode) × IsUnder (children c0) (Operation op) n × Found c0 n b
+  broke_off a b e h = at_break b (subst (λ z. WalkedOver look w post c0 s0 (Operation op) z s1) e h)
+
+-- each node under one all of which can be read
+pub each_readable : {K A T : Type 0} (s : ContextView K A T) (x n : IRNode) → AllReadable s x → IsUnder (children s) x n
+    → IsNodeReadable s n
+each_readable s x (Operation p) all u = all.ops p u
+each_readable s x (Region r) all u = tt
+each_readable s x (BasicBlock b) all u = all.blocks b u

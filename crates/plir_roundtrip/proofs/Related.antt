@@ -35,14 +35,14 @@ pairs_append R [] us (y ∷ ys) vs h k = absurd h
 pairs_append R (x ∷ xs) us [] vs h k = absurd h
 pairs_append R (x ∷ xs) us (y ∷ ys) vs h k = (h.0, pairs_append R xs us ys vs h.1 k)
 
-values_append : (ms ns : List Mention) → values_in (ms ++ ns) ≡ values_in ms ++ values_in ns
+pub values_append : (ms ns : List Mention) → values_in (ms ++ ns) ≡ values_in ms ++ values_in ns
 values_append [] ns = refl
 values_append (value_bears w v ∷ ms) ns = ap (λ l. (w, v) ∷ l) (values_append ms ns)
 values_append (block_bears l b ∷ ms) ns = values_append ms ns
 values_append (operand_named w t ∷ ms) ns = values_append ms ns
 values_append (successor_named l ∷ ms) ns = values_append ms ns
 
-labels_append : (ms ns : List Mention) → labels_in (ms ++ ns) ≡ labels_in ms ++ labels_in ns
+pub labels_append : (ms ns : List Mention) → labels_in (ms ++ ns) ≡ labels_in ms ++ labels_in ns
 labels_append [] ns = refl
 labels_append (value_bears w v ∷ ms) ns = labels_append ms ns
 labels_append (block_bears l b ∷ ms) ns = ap (λ z. (l, b) ∷ z) (labels_append ms ns)

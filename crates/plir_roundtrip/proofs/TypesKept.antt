@@ -41,6 +41,15 @@ use Rattle.std.specs.Prelude.{nat_lt}
 use Rattle.std.proofs.Common.{get_or}
 use Rattle.std.proofs.lemmas.Option.{slice_get-get_or}
 
+module _ {D K A T E : Type 0} (o : op_set.Ghosts D K A T E) (s : ContextView K A T)
+    (whole : IsWellFormed o.attr_handles s) where
+  pub operands_live : (p : Ptr OperationKind) → All (IsValueLive s) (operands_of s p)
+  operands_live p = at (op_at s p) refl
+    where
+      at : (v : Option (OpView K A)) → op_at s p ≡ v → All (IsValueLive s) (operands_in v)
+      at None e = λ k d lt. absurd (omega (arith, lt))
+      at (Some v) e = (whole.holds.ops p.slot v e).operands
+
 module _ {D K A T E : Type 0} (o : op_set.Ghosts D K A T E) (s t : ContextView K A T)
     (whole : IsWellFormed o.attr_handles s) (g : Grows s.types t.types)
     (table : IsTypeTable o.type_handles t.types) where
@@ -127,10 +136,3 @@ module _ {D K A T E : Type 0} (o : op_set.Ghosts D K A T E) (s t : ContextView K
             subst (λ z. Names t.types h (some_type_term s.types z)) (sym held)
             (type_stays o.type_handles s.types t.types g table h alive (r.0 h held));
       }
-
-  pub operands_live : (p : Ptr OperationKind) → All (IsValueLive s) (operands_of s p)
-  operands_live p = at (op_at s p) refl
-    where
-      at : (v : Option (OpView K A)) → op_at s p ≡ v → All (IsValueLive s) (operands_in v)
-      at None e = λ k d lt. absurd (omega (arith, lt))
-      at (Some v) e = (whole.holds.ops p.slot v e).operands

@@ -45,7 +45,7 @@ use Rattle.plir_roundtrip.proofs.Related.{SameScope, SayAlike}
 use Rattle.plir_roundtrip.proofs.TypesKept.{IsTypedUse, operands_live, typed_use}
 
 -- what is in a list has what all of it have
-all_has : {X : Type 0} (P : X → Type 0) (xs : List X) (x : X) → All P xs → Has xs x → P x
+pub all_has : {X : Type 0} (P : X → Type 0) (xs : List X) (x : X) → All P xs → Has xs x → P x
 all_has P xs x all h =
     let i = at-Has xs x h in
     subst P (get_or_from_slice_get xs i.0 x x i.1) (all i.0 x (slice_get_within xs i.0 x i.1))
@@ -140,7 +140,7 @@ module _ {D K A T E : Type 0} (o : op_set.Ghosts D K A T E) (find : List ℕ →
       (successors_named bt.region (map (block_name s) (successors_of s p)))
       (operands_good at.body bt.body scopes.body (operands_of s p) meant.operands (λ v h.
       typed_use o s t whole g table v
-      (all_has (IsValueLive s) (operands_of s p) v (operands_live o s t whole g table p) h)
+      (all_has (IsValueLive s) (operands_of s p) v (operands_live o s whole p) h)
       (all_has (IsUseReadable o find s) (operands_of s p) v r.operands h)))
       (successors_good at.region bt.region scopes.region (successors_of s p) meant.successors)
 

@@ -18,6 +18,9 @@
 --   UsesMeant      UsesStand: each name that the text of an operation uses means what it was written for
 --   SameReadBack   IsSameReadBack: what was printed is read back as the same tree
 --   BuiltinTexts   BuiltinTextsAreRead: texts of builtin operations are texts of operations of any kind
+--   UsesWithin     UsesWithin: the operations of a tree use what they can name
+--   IrReadableUses IsIrReadable: what the laws of operations of any kind ask; ReadableUsesStand: that it suffices
+--   Obstacles      IsObstacle: what stands against it, and what its test tells on the way
 pub mod Written
 pub mod Readable
 pub mod SameTree
@@ -32,3 +35,6 @@ pub mod SameIrTree
 pub mod UsesMeant
 pub mod SameReadBack
 pub mod BuiltinTexts
+pub mod UsesWithin
+pub mod IrReadableUses
+pub mod Obstacles

@@ -25,6 +25,10 @@ abbrev pub keys_with : (has_value : Bool) → List (List ℕ)
 keys_with true = value_key ∷ names_key ∷ []
 keys_with false = names_key ∷ []
 
+-- A walk that looks for something goes on at a node where it is not, and breaks off with it where it is.
+abbrev pub IsLookAnswer : {B : Type 0} → (Good : Type 0) → (Found : B → Type 0) → ControlFlow B WalkContinue → Type 0
+IsLookAnswer {B} Good Found a = (Good × (a ≡ Continue Advance)) ⊎ ((b : B) × Found b × (a ≡ Break b))
+
 module _ {K A T : Type 0} (s : ContextView K A T) where
   -- the result or argument at a place has a builtin type, and a name that is an identifier, if any
   abbrev pub IsValueReadable : DefiningEntity → (i : ℕ) → Type 0
@@ -46,6 +50,6 @@ module _ {K A T : Type 0} (s : ContextView K A T) where
     pub ops : (q : Ptr OperationKind) → IsUnder (children s) x (Operation q) → IsOpReadable s q
     pub blocks : (b : Ptr BlockKind) → IsUnder (children s) x (BasicBlock b) → IsBlockReadable s b
 
-  -- a walk that looks for a node that cannot be read goes on at one that can, and breaks off at one that cannot
+  -- the answer of a walk that looks for a node that cannot be read
   abbrev pub IsAnswerAt : IRNode → ControlFlow (Unit {0}) WalkContinue → Type 0
-  IsAnswerAt n a = (IsNodeReadable n × (a ≡ Continue Advance)) ⊎ ((IsNodeReadable n → ⊥) × (a ≡ Break tt))
+  IsAnswerAt n a = IsLookAnswer (IsNodeReadable n) (λ u. IsNodeReadable n → ⊥) a

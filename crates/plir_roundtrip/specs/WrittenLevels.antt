@@ -10,19 +10,19 @@ use Rattle.plir_core.specs.declared.ptr.BasicBlock.{BasicBlock as BlockKind}
 use Rattle.plir_core.specs.declared.ptr.IRNode.{IRNode}
 use Rattle.plir_core.specs.declared.ptr.IRNode.TheVariants.{BasicBlock}
 use Rattle.plir_core.specs.declared.value.Value.{Value}
-use Rattle.plir_core.specs.ContextView.{ContextView, children, kind_of, result_types_of}
-use Rattle.plir_attr_text.specs.Terms.{type_levels, levels, entries_levels}
+use Rattle.plir_core.specs.ContextView.{ContextView, children, result_types_of}
+use Rattle.plir_attr_text.specs.Terms.{type_levels, types_levels, levels, entries_levels}
 use Rattle.plir_attr_text.specs.Writable.{attr_term, entry_terms}
 use Rattle.plir_print.specs.Dictionaries.{is_shown, shown_of}
 use Rattle.plir_print.specs.OpText.{room}
 use Rattle.plir_print.specs.ValueNames.{arguments_of}
-use Rattle.plir_read.specs.OpTerms.{OpTerm, header_levels, ops_of, blocks_of, arguments_levels, blocks_levels}
-use Rattle.plir_read.specs.OpTerms.{ops_levels}
-use Rattle.plir_roundtrip.specs.Written.{some_type_term, argument_term, block_term, blocks_under, header_term, term_at}
+use Rattle.plir_read_ir.specs.IrTerms.{IrOp, blocks_levels, blocks_of, ops_levels, ops_of, regions_levels, regions_of}
+use Rattle.plir_roundtrip.specs.Written.{some_type_term}
+use Rattle.plir_roundtrip.specs.IrWritten.{block_written, ir_term_at, region_written, types_written}
 
--- of the types of arguments
-abbrev pub typed_levels : {K A T : Type 0} → ContextView K A T → List Value → ℕ
-typed_levels s vs = arguments_levels (map (argument_term s) vs)
+-- of the types of values
+abbrev pub value_levels : {K A T : Type 0} → ContextView K A T → List Value → ℕ
+value_levels s vs = types_levels (types_written s vs)
 
 -- of the type of the first result
 abbrev pub result_levels : {K A T : Type 0} → ContextView K A T → Ptr OperationKind → ℕ
@@ -39,19 +39,19 @@ module _ {D K A T E : Type 0} (o : op_set.Ghosts D K A T E) where
 
   module _ (s : ContextView K A T) where
     -- the operation at a node with all below it
-    abbrev pub node_term : IRNode → OpTerm
-    node_term x = term_at o s (room s x) x
+    abbrev pub node_term : IRNode → IrOp K
+    node_term x = ir_term_at o s (room s x) x
 
-    -- of blocks with all below them, and of operations with all below them
-    abbrev pub nested_blocks : List IRNode → ℕ
-    nested_blocks xs = blocks_levels (blocks_of (map (block_term s node_term) xs))
-
+    -- of operations, of blocks and of regions with all below them
     abbrev pub nested_ops : List IRNode → ℕ
     nested_ops xs = ops_levels (ops_of (map node_term xs))
 
-    -- of a block with all below it, and of an operation with one region
-    abbrev pub nested_block : Ptr BlockKind → ℕ
-    nested_block b = max (typed_levels s (arguments_of s b)) (nested_ops (children s (BasicBlock b)))
+    abbrev pub nested_blocks : List IRNode → ℕ
+    nested_blocks xs = blocks_levels (blocks_of (map (block_written s node_term) xs))
 
-    abbrev pub body_levels : Ptr OperationKind → ℕ
-    body_levels p = max (header_levels (header_term o s (kind_of s p) p)) (nested_blocks (blocks_under s p))
+    abbrev pub nested_regions : List IRNode → ℕ
+    nested_regions xs = regions_levels (regions_of (map (region_written s node_term) xs))
+
+    -- of a block with all below it
+    abbrev pub nested_block : Ptr BlockKind → ℕ
+    nested_block b = max (value_levels s (arguments_of s b)) (nested_ops (children s (BasicBlock b)))

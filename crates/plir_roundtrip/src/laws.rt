@@ -2,6 +2,7 @@
 //! `ir_` speak of operations of any kind, and of `read_ir`; the others of builtin operations, and of `read_op`.
 ghost use Rattle.plir_roundtrip.specs.BuiltinTexts.{BuiltinTextsAreRead};
 ghost use Rattle.plir_roundtrip.specs.IrReadBack.{IsIrReadBack};
+ghost use Rattle.plir_roundtrip.specs.IrReadableUses.{ReadableUsesStand};
 ghost use Rattle.plir_roundtrip.specs.OpAnswer.{IsReadBack, NewModulesReadable, TextsStand};
 ghost use Rattle.plir_roundtrip.specs.SameReadBack.{IsSameReadBack};
 ghost use Rattle.plir_roundtrip.specs.TextsStanding.{IrTextsStand};
@@ -82,6 +83,16 @@ pub fn ir_tree_is_read_back<D: ReadSet>(text: &str, read: &Result<Ptr<Operation>
 /// by `read_ir` too, and each name in it stands, since it uses none.
 pub fn builtin_texts_are_read<D: ReadSet>()
     ensures { BuiltinTextsAreRead D.OpSet D.find_kind D.is_isolated }
+{
+    contexts_stand::<D>();
+}
+
+/// What `ir_tree_is_read_back` asks holds of each live operation of a context whose text stands for it, and at or under
+/// which each operation uses what it can name: results and arguments of nodes of the tree that stand inside the same
+/// modules, functions and isolated operations of it, and blocks of the region in which its own block stands. `ir_obstacle`
+/// tests that.
+pub fn ir_uses_stand<D: ReadSet>()
+    ensures { ReadableUsesStand D.OpSet D.find_kind D.is_isolated }
 {
     contexts_stand::<D>();
 }

@@ -62,8 +62,8 @@ fn is_kind_readable<D: OpSet>(ctx: &Context<D>, op: Ptr<Operation>) -> bool
     }
 }
 
-// Whether an operation can be read.
-fn is_op_readable<D: OpSet>(ctx: &Context<D>, op: Ptr<Operation>) -> bool
+/// Whether an operation can be read.
+pub(crate) fn is_op_readable<D: OpSet>(ctx: &Context<D>, op: Ptr<Operation>) -> bool
     requires { IsLive ctx.now (AnyNode.Operation op) }
     ensures { IsTrue result ↔ IsOpReadable ctx.now op }
 {
@@ -73,8 +73,8 @@ fn is_op_readable<D: OpSet>(ctx: &Context<D>, op: Ptr<Operation>) -> bool
     of_kind && are_readable && is_alone
 }
 
-// Whether a block can be read.
-fn is_block_readable<D: OpSet>(ctx: &Context<D>, block: Ptr<BasicBlock>) -> bool
+/// Whether a block can be read.
+pub(crate) fn is_block_readable<D: OpSet>(ctx: &Context<D>, block: Ptr<BasicBlock>) -> bool
     requires { IsLive ctx.now (AnyNode.BasicBlock block) }
     ensures { IsTrue result ↔ IsBlockReadable ctx.now block }
 {

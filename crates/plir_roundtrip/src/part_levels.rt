@@ -6,20 +6,25 @@ ghost use Rattle.plir_data.specs.AttrSeen.{attr_view};
 ghost use Rattle.plir_data.specs.TypeTree.{tree_of};
 ghost use Rattle.plir_data.specs.Types.{IsLive as IsTypeLive};
 ghost use Rattle.plir_core.specs.declared.ptr.IRNode.{IRNode as AnyNode};
-ghost use Rattle.plir_core.specs.ContextView.{IsLive, kind_of};
+ghost use Rattle.plir_data.specs.declared.op_set.OpKind.{OpKind};
+ghost use Rattle.plir_core.specs.ContextView.{IsLive, entity_node, kind_of, operands_of};
 ghost use Rattle.plir_attr_text.specs.Terms.{entries_levels, levels, type_levels};
 ghost use Rattle.plir_attr_text.specs.Writable.{type_term};
 ghost use Rattle.plir_builtin.specs.BuiltinOps.{func_type_of, value_of};
 ghost use Rattle.plir_print.specs.Dictionaries.{is_shown};
-ghost use Rattle.plir_print.specs.ValueNames.{arguments_of};
-ghost use Rattle.plir_read.specs.OpTerms.{head_levels, header_levels, op_levels};
+ghost use Rattle.plir_print.specs.ValueNames.{values_from};
+ghost use Rattle.plir_read.specs.OpTerms.{head_levels, header_levels};
+ghost use Rattle.plir_read_own.specs.OwnTerms.{header_levels as own_levels};
+ghost use Rattle.plir_read_ir.specs.IrTerms.{front_levels};
+ghost use Rattle.plir_roundtrip.specs.IrWritten.{front_of, own_header};
 ghost use Rattle.plir_roundtrip.specs.Written.{some_type_term, some_attr_term};
-ghost use Rattle.plir_roundtrip.specs.Written.{head_term, header_term, dictionary_term, constant_of};
-ghost use Rattle.plir_roundtrip.specs.WrittenLevels.{entry_level, result_levels, shown_levels, typed_levels};
+ghost use Rattle.plir_roundtrip.specs.Written.{head_term, header_term, dictionary_term};
+ghost use Rattle.plir_roundtrip.specs.WrittenLevels.{entry_level, result_levels, shown_levels, value_levels};
 
+use crate::values::{num_values, type_at};
 use plir_attr_text::is_within_levels;
 use plir_builtin::find_func_type;
-use plir_core::{BasicBlock, Context, Operation, Ptr};
+use plir_core::{Context, DefiningEntity, Operation, Ptr};
 use plir_data::{AttrObj, AttributeDict, OpKind, OpSet, TypeAttr, TypeHandle};
 use plir_print::{find_value, is_shown};
 
@@ -67,15 +72,11 @@ fn is_value_below<D: OpSet>(ctx: &Context<D>, op: Ptr<Operation>, left: usize) -
     }
 }
 
-/// A constant, itself counted.
-pub(crate) fn is_constant_within<D: OpSet>(
-    ctx: &Context<D>,
-    op: Ptr<Operation>,
-    left: usize,
-) -> bool
+// The value of a constant, and the type of its result.
+fn is_constant_below<D: OpSet>(ctx: &Context<D>, op: Ptr<Operation>, left: usize) -> bool
     requires live { IsLive ctx.now (AnyNode.Operation op) }
     requires some { 0 < left }
-    ensures { IsTrue result ↔ (op_levels (constant_of ctx.now op) ≤ left) }
+    ensures { IsTrue result ↔ (front_levels (front_of D.OpSet ctx.now (Some OpKind.Constant) op) < left) }
 {
     let is_value = is_value_below(ctx, op, left);
     let is_result = is_result_below(ctx, op, left);
@@ -143,8 +144,8 @@ fn is_head_below<D: OpSet>(ctx: &Context<D>, op: Ptr<Operation>, left: usize) ->
     }
 }
 
-/// What stands before the blocks of a module or a function.
-pub(crate) fn is_header_below<D: OpSet>(ctx: &Context<D>, op: Ptr<Operation>, left: usize) -> bool
+// What stands before the blocks of a module or a function.
+fn is_header_below<D: OpSet>(ctx: &Context<D>, op: Ptr<Operation>, left: usize) -> bool
     requires live { IsLive ctx.now (AnyNode.Operation op) }
     requires some { 0 < left }
     ensures { IsTrue result ↔ (header_levels (header_term D.OpSet ctx.now (kind_of ctx.now op) op) < left) }
@@ -154,20 +155,66 @@ pub(crate) fn is_header_below<D: OpSet>(ctx: &Context<D>, op: Ptr<Operation>, le
     is_head && is_dictionary
 }
 
-/// The arguments of a block.
-pub(crate) fn are_arguments_below<D: OpSet>(
+/// The types of results or arguments.
+pub(crate) fn are_types_below<D: OpSet>(
     ctx: &Context<D>,
-    block: Ptr<BasicBlock>,
+    entity: DefiningEntity,
     left: usize,
 ) -> bool
-    requires live { IsLive ctx.now (AnyNode.BasicBlock block) }
+    requires live { IsLive ctx.now (entity_node entity) }
     requires some { 0 < left }
-    ensures { IsTrue result ↔ (typed_levels ctx.now (arguments_of ctx.now block) < left) }
+    ensures { IsTrue result ↔ (value_levels ctx.now (values_from ctx.now entity) < left) }
 {
-    'arguments: for place in 0..block.get_num_arguments(ctx) {
-        if !is_type_below(ctx, block.get_type(ctx, place), left) {
+    'places: for place in 0..num_values(ctx, entity) {
+        if !is_type_below(ctx, type_at(ctx, entity, place), left) {
             return false;
         }
     }
     true
+}
+
+// The types of operands.
+fn are_operands_below<D: OpSet>(ctx: &Context<D>, op: Ptr<Operation>, left: usize) -> bool
+    requires live { IsLive ctx.now (AnyNode.Operation op) }
+    requires some { 0 < left }
+    ensures { IsTrue result ↔ (value_levels ctx.now (operands_of ctx.now op) < left) }
+{
+    'operands: for place in 0..op.get_num_operands(ctx) {
+        if !is_type_below(ctx, op.get_operand(ctx, place).get_type(ctx), left) {
+            return false;
+        }
+    }
+    true
+}
+
+// What stands before the regions of an operation of one's own kind.
+fn is_own_header_below<D: OpSet>(
+    ctx: &Context<D>,
+    kind: D::Kind,
+    op: Ptr<Operation>,
+    left: usize,
+) -> bool
+    requires live { IsLive ctx.now (AnyNode.Operation op) }
+    requires some { 0 < left }
+    ensures { IsTrue result ↔ (own_levels (own_header D.OpSet ctx.now kind op) < left) }
+{
+    let is_dictionary = is_dictionary_below(ctx, op, left);
+    let are_operands = are_operands_below(ctx, op, left);
+    let are_results = are_types_below(ctx, DefiningEntity::Op(op), left);
+    is_dictionary && are_operands && are_results
+}
+
+/// What stands before the regions of an operation.
+pub(crate) fn is_front_below<D: OpSet>(ctx: &Context<D>, op: Ptr<Operation>, left: usize) -> bool
+    requires live { IsLive ctx.now (AnyNode.Operation op) }
+    requires some { 0 < left }
+    ensures { IsTrue result ↔ (front_levels (front_of D.OpSet ctx.now (kind_of ctx.now op) op) < left) }
+{
+    match op.kind(ctx) {
+        OpKind::Module => is_header_below(ctx, op, left),
+        OpKind::Func => is_header_below(ctx, op, left),
+        OpKind::Constant => is_constant_below(ctx, op, left),
+        OpKind::ForwardRef => true,
+        OpKind::Own(kind) => is_own_header_below(ctx, kind, op, left),
+    }
 }

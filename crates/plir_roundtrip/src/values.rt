@@ -43,8 +43,8 @@ fn is_value_named<D: OpSet>(ctx: &Context<D>, entity: DefiningEntity, place: usi
     }
 }
 
-// How many results or arguments there are.
-fn num_values<D: OpSet>(ctx: &Context<D>, entity: DefiningEntity) -> usize
+/// How many results or arguments there are.
+pub(crate) fn num_values<D: OpSet>(ctx: &Context<D>, entity: DefiningEntity) -> usize
     requires { IsLive ctx.now (entity_node entity) }
     ensures { result ≡ length (types_from ctx.now entity) }
 {
@@ -54,8 +54,8 @@ fn num_values<D: OpSet>(ctx: &Context<D>, entity: DefiningEntity) -> usize
     }
 }
 
-// The type of a result or an argument.
-fn type_at<D: OpSet>(ctx: &Context<D>, entity: DefiningEntity, place: usize) -> TypeHandle
+/// The type of a result or an argument.
+pub(crate) fn type_at<D: OpSet>(ctx: &Context<D>, entity: DefiningEntity, place: usize) -> TypeHandle
     requires live { IsLive ctx.now (entity_node entity) }
     requires below { place < length (types_from ctx.now entity) }
     ensures value { slice_get (types_from ctx.now entity) place ≡ Some result }
@@ -67,8 +67,8 @@ fn type_at<D: OpSet>(ctx: &Context<D>, entity: DefiningEntity, place: usize) -> 
     }
 }
 
-// Whether a result or an argument can be read.
-fn is_value_readable<D: OpSet>(ctx: &Context<D>, entity: DefiningEntity, place: usize) -> bool
+/// Whether a result or an argument can be read.
+pub(crate) fn is_value_readable<D: OpSet>(ctx: &Context<D>, entity: DefiningEntity, place: usize) -> bool
     requires live { IsLive ctx.now (entity_node entity) }
     requires below { place < length (types_from ctx.now entity) }
     ensures { IsTrue result ↔ IsValueReadable ctx.now entity place }

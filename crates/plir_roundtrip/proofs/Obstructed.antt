@@ -1,0 +1,43 @@
+-- What the test of an operation of any kind tells, from what its parts tell.
+use Rattle.std.proofs.Common.{ℕ, Bool, List, Option, Some, None}
+use Rattle.std.specs.Prelude.{MatchOption}
+use Rattle.plir_data.specs.declared.op_set.OpSet as op_set
+use Rattle.plir_core.specs.ContextView.{ContextView, children}
+use Rattle.plir_core.specs.declared.ptr.Ptr.{Ptr}
+use Rattle.plir_core.specs.declared.ptr.Operation.{Operation as OperationKind}
+use Rattle.plir_core.specs.declared.ptr.IRNode.{IRNode}
+use Rattle.plir_core.specs.declared.ptr.IRNode.TheVariants.{Operation, BasicBlock}
+use Rattle.plir_core.specs.declared.value.DefiningEntity.{DefiningEntity}
+use Rattle.plir_core.specs.declared.value.DefiningEntity.TheVariants.{Op, Block}
+use Rattle.plir_walk.specs.Tree.{IsUnder}
+use Rattle.plir_roundtrip.specs.IrReadable.{AreIrReadable, HasReadableText}
+use Rattle.plir_roundtrip.specs.IrReadableUses.{IsIrReadable}
+use Rattle.plir_roundtrip.specs.Obstacles.{IsFarUse, IsIrNodeReadable, IsNodeCounted, IsObstacle}
+use Rattle.plir_roundtrip.specs.UsesWithin.{AreCounted, UsesWithin}
+use Rattle.plir_roundtrip.specs.declared.obstacle.Obstacle.{Obstacle}
+use Rattle.plir_roundtrip.specs.declared.obstacle.Obstacle.TheVariants.{Node, Levels, Operand, Successor}
+
+module _ {D K A T E : Type 0} (o : op_set.Ghosts D K A T E) (find : List ℕ → Option K) (isolated : K → Bool)
+    (s : ContextView K A T) (p : Ptr OperationKind) where
+  -- nodes that can be read, each with results or arguments that can be counted
+  pub all_looked_at : ((n : IRNode) → IsUnder (children s) (Operation p) n
+      → IsIrNodeReadable o find s n × IsNodeCounted o find s n)
+      → AreIrReadable o find s (Operation p) × AreCounted s (Operation p)
+  all_looked_at each = (
+    record { ops = λ q u. (each (Operation q) u).0; blocks = λ b u. (each (BasicBlock b) u).0 },
+    counted,
+  )
+    where
+      counted : AreCounted s (Operation p)
+      counted (Op q) u = (each (Operation q) u).1
+      counted (Block b) u = (each (BasicBlock b) u).1
+
+  -- where its text stands for the operation, a use may stand against it
+  pub told_by_uses : (found : Option Obstacle) → HasReadableText o find s p → AreCounted s (Operation p)
+      → MatchOption found (UsesWithin isolated s (Operation p)) (IsFarUse isolated s (Operation p))
+      → MatchOption found (IsIrReadable o find isolated s p) (IsObstacle o find s isolated p)
+  told_by_uses None text few uses = record { text = text; uses = uses; counted = few }
+  told_by_uses (Some (Node n)) text few far = absurd far
+  told_by_uses (Some Levels) text few far = absurd far
+  told_by_uses (Some (Operand q i)) text few far = (text, far)
+  told_by_uses (Some (Successor q i)) text few far = (text, far)

@@ -1,0 +1,115 @@
+-- What stands against reading an operation of any kind back from its text, and what its test tells on the way.
+use Rattle.std.specs.Prelude.{◌≡◌, ℕ, ◌≤◌, ◌<◌, ◌^◌, List, Bool, true, if◌then◌else◌, Option, Some, None, length, slice_get}
+use Rattle.std.specs.Prelude.{All}
+use Rattle.plir_data.specs.declared.op_set.OpSet as op_set
+use Rattle.plir_core.specs.declared.ptr.Ptr.{Ptr}
+use Rattle.plir_core.specs.declared.ptr.Operation.{Operation as OperationKind}
+use Rattle.plir_core.specs.declared.ptr.Region.{Region as RegionKind}
+use Rattle.plir_core.specs.declared.ptr.BasicBlock.{BasicBlock as BlockKind}
+use Rattle.plir_core.specs.declared.ptr.IRNode.{IRNode}
+use Rattle.plir_core.specs.declared.ptr.IRNode.TheVariants.{Operation, Region, BasicBlock}
+use Rattle.plir_core.specs.declared.value.DefiningEntity.TheVariants.{Op, Block}
+use Rattle.plir_core.specs.declared.value.Value.{Value}
+use Rattle.plir_core.specs.ContextView.{ContextView, children, kind_of, operands_of, successors_of, types_from}
+use Rattle.plir_walk.specs.Tree.{IsProperlyUnder, IsUnder}
+use Rattle.plir_read_ir.specs.IrTerms.{op_levels}
+use Rattle.plir_roundtrip.specs.Readable.{IsBlockReadable}
+use Rattle.plir_roundtrip.specs.IrReadable.{AreIrReadable, HasReadableText, IsIrOpReadable}
+use Rattle.plir_roundtrip.specs.IrWritten.{ir_term_of}
+use Rattle.plir_roundtrip.specs.UsesWithin.{AreCounted, IsBeside, IsWithinReach, StandsAround, is_kind_isolated}
+use Rattle.plir_roundtrip.specs.declared.obstacle.Obstacle.{Obstacle}
+use Rattle.plir_roundtrip.specs.declared.obstacle.Obstacle.TheVariants.{Node, Levels, Operand, Successor}
+use Rattle.plir_roundtrip.specs.declared.reach.Body.{Body}
+use Rattle.plir_roundtrip.specs.declared.reach.Body.TheVariants.{Whole, Of, Outside}
+
+-- no two kinds have one id
+abbrev pub AreIdsApart : {K : Type 0} → (id : K → List ℕ) → Type 0
+AreIdsApart {K} id = (k j : K) → id k ≡ id j → k ≡ j
+
+-- the operation at a node, if there is one and it is isolated
+abbrev pub as_isolated : {K A T : Type 0} → (isolated : K → Bool) → ContextView K A T → Option IRNode →
+    Option (Ptr OperationKind)
+as_isolated isolated s (Some (Operation p)) = if is_kind_isolated isolated (kind_of s p) then Some p else None
+as_isolated isolated s (Some (Region r)) = None
+as_isolated isolated s (Some (BasicBlock b)) = None
+as_isolated isolated s None = None
+
+module _ {K A T : Type 0} (isolated : K → Bool) (s : ContextView K A T) (root : IRNode) where
+  -- An isolated operation is the innermost one around a node, and the climb from the node has not come to the root
+  -- before.
+  pub record IsFirstAround (a : Ptr OperationKind) (n : IRNode) : Type 0 where
+    pub alone : is_kind_isolated isolated (kind_of s a) ≡ true
+    pub below : IsProperlyUnder (children s) (Operation a) n
+    pub innermost : (b : Ptr OperationKind) → is_kind_isolated isolated (kind_of s b) ≡ true →
+        IsProperlyUnder (children s) (Operation b) n → IsUnder (children s) (Operation b) (Operation a)
+    pub within : IsUnder (children s) root n → IsUnder (children s) root (Operation a)
+
+  -- what a climb from a node tells
+  abbrev pub IsBodyTold : IRNode → Body → Type 0
+  IsBodyTold n Whole = IsUnder (children s) root n × ((a : Ptr OperationKind) → StandsAround isolated s root a n → ⊥)
+  IsBodyTold n (Of a) = IsFirstAround a n
+  IsBodyTold n Outside = IsUnder (children s) root n → ⊥
+
+  -- the operand of an operation at a place is the first that the operation cannot name
+  pub record IsFarOperand (p : Ptr OperationKind) (i : ℕ) : Type 0 where
+    pub value : Value
+    pub there : slice_get (operands_of s p) i ≡ Some value
+    pub far : IsWithinReach isolated s root p value → ⊥
+    pub others : (j : ℕ) (v : Value) → j < i → slice_get (operands_of s p) j ≡ Some v → IsWithinReach isolated s root p v
+
+-- the same of the successor at a place
+pub record IsFarSuccessor {K A T : Type 0} (s : ContextView K A T) (root : IRNode) (p : Ptr OperationKind) (i : ℕ) :
+    Type 0 where
+  pub block : Ptr BlockKind
+  pub there : slice_get (successors_of s p) i ≡ Some block
+  pub far : IsBeside s root p block → ⊥
+  pub others : (j : ℕ) (b : Ptr BlockKind) → j < i → slice_get (successors_of s p) j ≡ Some b → IsBeside s root p b
+
+-- what an operation of the tree uses it can name; nothing is asked of a region and of a block
+abbrev pub IsUsing : {K A T : Type 0} → (isolated : K → Bool) → ContextView K A T → (root n : IRNode) → Type 0
+IsUsing isolated s root (Operation p) = All (IsWithinReach isolated s root p) (operands_of s p) ×
+    All (IsBeside s root p) (successors_of s p)
+IsUsing isolated s root (Region r) = Unit {0}
+IsUsing isolated s root (BasicBlock b) = Unit {0}
+
+-- An operand of an operation of the tree is the first that this cannot name; or it can name all operands, and a
+-- successor is the first that it cannot name.
+abbrev pub IsFarUse : {K A T : Type 0} → (isolated : K → Bool) → ContextView K A T → (root : IRNode) → Obstacle → Type 0
+IsFarUse isolated s root (Node n) = ⊥
+IsFarUse isolated s root Levels = ⊥
+IsFarUse isolated s root (Operand p i) = IsUnder (children s) root (Operation p) × IsFarOperand isolated s root p i
+IsFarUse isolated s root (Successor p i) = IsUnder (children s) root (Operation p) ×
+    All (IsWithinReach isolated s root p) (operands_of s p) × IsFarSuccessor s root p i
+
+-- two answers of climbs name one body of the tree
+abbrev pub IsSameBody : Body → Body → Type 0
+IsSameBody Whole Whole = Unit {0}
+IsSameBody Whole (Of b) = ⊥
+IsSameBody Whole Outside = ⊥
+IsSameBody (Of a) Whole = ⊥
+IsSameBody (Of a) (Of b) = a ≡ b
+IsSameBody (Of a) Outside = ⊥
+IsSameBody Outside b = ⊥
+
+-- `find` says which kind of the set an id names
+module _ {D K A T E : Type 0} (o : op_set.Ghosts D K A T E) (find : List ℕ → Option K) (s : ContextView K A T) where
+  -- a node that can be read, whatever stands below it
+  abbrev pub IsIrNodeReadable : IRNode → Type 0
+  IsIrNodeReadable (Operation p) = IsIrOpReadable o find s p
+  IsIrNodeReadable (Region r) = Unit {0}
+  IsIrNodeReadable (BasicBlock b) = IsBlockReadable s b
+
+  -- a node has fewer than 2 ^ 64 results or arguments
+  abbrev pub IsNodeCounted : IRNode → Type 0
+  IsNodeCounted (Operation p) = length (types_from s (Op p)) < 2 ^ 64
+  IsNodeCounted (Region r) = Unit {0}
+  IsNodeCounted (BasicBlock b) = length (types_from s (Block b)) < 2 ^ 64
+
+  -- What stands against reading an operation back from its text: a node at or under it cannot be read; or all can be,
+  -- and there are too many levels; or its text stands for it, and an operand or a successor means nothing there.
+  module _ (isolated : K → Bool) (p : Ptr OperationKind) where
+    abbrev pub IsObstacle : Obstacle → Type 0
+    IsObstacle (Node n) = IsUnder (children s) (Operation p) n × (IsIrNodeReadable n → ⊥)
+    IsObstacle Levels = AreIrReadable o find s (Operation p) × (op_levels (ir_term_of o s p) ≤ 200 → ⊥)
+    IsObstacle (Operand q i) = HasReadableText o find s p × IsFarUse isolated s (Operation p) (Operand q i)
+    IsObstacle (Successor q i) = HasReadableText o find s p × IsFarUse isolated s (Operation p) (Successor q i)
