@@ -1,6 +1,6 @@
 -- Who bears a name in a tree whose nodes have different names: one alone.
 use Rattle.std.proofs.Common.{◌≡◌, ℕ, zero, suc, Bool, true, false, List, [], ◌∷◌, ◌++◌, flat_map, map, inl, inr, Option}
-use Rattle.std.proofs.Common.{Some, None, refl, sym, ap, ap₂, subst, ◌∙◌, arith}
+use Rattle.std.proofs.Common.{Some, None, refl, sym, ap, ap₂, subst, ◌∙◌}
 use Rattle.std.specs.Option.{option_eq}
 use Rattle.std.specs.Prelude.{slice_get, if◌then◌else◌}
 use Rattle.std.specs.Str.{bytes_eq}
@@ -25,7 +25,7 @@ use Rattle.plir_read_ir.specs.Mentions.{Mention, Scope, WordIn, nowhere, same_wo
 use Rattle.plir_roundtrip.specs.UsesMeant.{scope_in}
 use Rattle.plir_roundtrip.proofs.Bodies.{child_below, not_below, scope-step, scope_at}
 use Rattle.plir_roundtrip.proofs.Children.{HasRoom, child_room, some_room}
-use Rattle.plir_roundtrip.proofs.Flattened.{own_mentions, same_flat, tree_mentions}
+use Rattle.plir_roundtrip.proofs.Flattened.{own_mentions, tree_mentions}
 use Rattle.plir_roundtrip.proofs.OnePlace.{goes, one_place}
 
 -- ---- lists that are joined

@@ -2,7 +2,7 @@
 use Rattle.std.proofs.Common.{◌≡◌, ℕ, zero, suc, Bool, true, false, List, [], ◌∷◌, ◌++◌, inl, inr, Option, Some, None}
 use Rattle.std.proofs.Common.{option_map, unwrap_or, refl, sym, ap, subst, ◌∙◌, ◌⊎◌}
 use Rattle.std.specs.Prelude.{slice_get, option_and_then, if◌then◌else◌}
-use Rattle.std.proofs.lemmas.Option.{same_Some, none-some}
+use Rattle.std.proofs.lemmas.Option.{same_Some}
 use Rattle.plir_data.specs.declared.op_set.OpKind.{OpKind}
 use Rattle.plir_data.specs.declared.op_set.OpKind.TheVariants.{Module, Func, Constant, ForwardRef, Own}
 use Rattle.plir_data.specs.declared.op_set.OpSet as op_set
@@ -21,8 +21,8 @@ use Rattle.plir_core.specs.declared.ptr.IRNode.TheVariants.{Operation, Region, B
 use Rattle.plir_walk.specs.Tree.{IsProperlyUnder, IsUnder, Place, node_at}
 use Rattle.plir_walk.specs.TreeLaws.{node_at-append, properly-trans, properly-under, reached-under, under-cases}
 use Rattle.plir_walk.specs.TreeLaws.{under-child, under-reached, under-trans, child-under}
-use Rattle.plir_read_ir.specs.Mentions.{Scope, body_in, nowhere}
-use Rattle.plir_roundtrip.specs.Readable.{IsKindReadable, IsOpReadable}
+use Rattle.plir_read_ir.specs.Mentions.{Scope, body_in}
+use Rattle.plir_roundtrip.specs.Readable.{IsKindReadable}
 use Rattle.plir_roundtrip.specs.IrReadable.{AreIrReadable, IsReadableAs}
 use Rattle.plir_roundtrip.specs.IrWritten.{front_of}
 use Rattle.plir_roundtrip.specs.UsesMeant.{scope_in}
@@ -109,10 +109,10 @@ module _ {K A T : Type 0} (s : ContextView K A T) (st : IsStanding s) where
         → ((a : Ptr OperationKind) → Operation a ≡ x → is_kind_isolated isolated (kind_of s a) ≡ true → ⊥)
         → IsInnermost b x → IsInnermost b c
     kept None x c h other inner =
-        λ a r. elim (around_child a x c h r) [ | inl e ↦ other a e r.alone | inr k ↦ inner a k ]
+        λ a r. elim (around_child a x c h r) [ inl e ↦ other a e r.alone | inr k ↦ inner a k ]
     kept (Some b) x c h other inner = (
       around_lower b x c h inner.0,
-      λ a r. elim (around_child a x c h r) [ | inl e ↦ absurd (other a e r.alone) | inr k ↦ inner.1 a k ],
+      λ a r. elim (around_child a x c h r) [ inl e ↦ absurd (other a e r.alone) | inr k ↦ inner.1 a k ],
     )
 
     -- that of an isolated operation's children is the operation

@@ -1,5 +1,5 @@
 -- What a climb from a node tells of the isolated operations around it, and which values and blocks an operation can name.
-use Rattle.std.proofs.Common.{◌≡◌, ◌↔◌, ◌<◌, ◌&&◌, ℕ, zero, suc, Bool, true, false, List, [], ◌∷◌, inl, inr, Option}
+use Rattle.std.proofs.Common.{◌≡◌, ◌↔◌, ◌<◌, ◌&&◌, ℕ, zero, suc, Bool, true, false, List, [], inl, inr, Option}
 use Rattle.std.proofs.Common.{Some, None, IsTrue, refl, sym, ap, subst, ◌∙◌, arith}
 use Rattle.std.proofs.Common.{eqb, ◌+◌, ◌≤◌, All, get_or, length}
 use Rattle.std.specs.Prelude.{IfSome, if◌then◌else◌, slice_get}
@@ -13,12 +13,11 @@ use Rattle.plir_core.specs.Measures.{depth}
 use Rattle.plir_core.specs.Standing.{IsStanding}
 use Rattle.plir_core.specs.declared.ptr.Ptr.{Ptr}
 use Rattle.plir_core.specs.declared.ptr.Operation.{Operation as OperationKind}
-use Rattle.plir_core.specs.declared.ptr.Region.{Region as RegionKind}
 use Rattle.plir_core.specs.declared.ptr.BasicBlock.{BasicBlock as BlockKind}
 use Rattle.plir_core.specs.declared.ptr.IRNode.{IRNode}
 use Rattle.plir_core.specs.declared.ptr.IRNode.TheVariants.{Operation, Region, BasicBlock}
 use Rattle.plir_walk.specs.Tree.{IsProperlyUnder, IsUnder}
-use Rattle.plir_walk.specs.TreeLaws.{node_at-append, properly-trans, properly-under, under-cases, under-child}
+use Rattle.plir_walk.specs.TreeLaws.{properly-trans, properly-under, under-cases, under-child}
 use Rattle.plir_walk.specs.TreeLaws.{under-reached, under-trans}
 use Rattle.plir_roundtrip.specs.Obstacles.{IsBodyTold, IsFirstAround, IsSameBody, as_isolated}
 use Rattle.plir_roundtrip.specs.UsesWithin.{AreInOneBody, IsBeside, StandsAround, is_kind_isolated}

@@ -1,25 +1,19 @@
 -- What nodes of a tree bear in its text: results and arguments their names, and blocks their labels.
-use Rattle.std.proofs.Common.{◌≡◌, ℕ, zero, suc, ◌+◌, ◌<◌, ◌≤◌, ◌^◌, Bool, true, List, [], ◌∷◌, ◌++◌, All, length, map, inl, inr}
+use Rattle.std.proofs.Common.{◌≡◌, ℕ, zero, suc, ◌+◌, ◌<◌, ◌≤◌, Bool, true, List, [], ◌∷◌, ◌++◌, length, map, inl, inr}
 use Rattle.std.proofs.Common.{Option, Some, None, refl, sym, ap, ap₂, subst, ◌∙◌, arith, append-nil}
 use Rattle.std.specs.List.{range_with_len}
-use Rattle.std.specs.Prelude.{slice_get, MatchOption, nat_lt, option_and_then}
+use Rattle.std.specs.Prelude.{slice_get, nat_lt}
 use Rattle.std.proofs.lemmas.Bool.{and_parts, ltb-true}
-use Rattle.std.proofs.lemmas.Option.{none-some}
 use Rattle.plir_data.specs.declared.op_set.OpKind.{OpKind}
 use Rattle.plir_data.specs.declared.op_set.OpKind.TheVariants.{Module, Func, Constant, ForwardRef, Own}
 use Rattle.plir_data.specs.declared.op_set.OpSet as op_set
-use Rattle.plir_names.specs.declared.names.Meaning.TheVariants.{Only}
-use Rattle.plir_store.specs.MemberLaws.{Distinct-one, Has-at, Has-map, at-Has}
+use Rattle.plir_store.specs.MemberLaws.{Distinct-one, Has-at}
 use Rattle.plir_store.specs.Members.{Has, Distinct}
-use Rattle.plir_core.specs.Above.{climb}
-use Rattle.plir_core.specs.Contents.{OpView}
-use Rattle.plir_core.specs.ContextView.{ContextView, IsLive, IsValueLive, children, entity_node, is_live, kind_of, op_at}
-use Rattle.plir_core.specs.ContextView.{operands_in, operands_of, parent_of, region_above, result_types_of}
-use Rattle.plir_core.specs.ContextView.{successors_of, types_from}
-use Rattle.plir_core.specs.Forest.{look}
+use Rattle.plir_core.specs.ContextView.{ContextView, IsValueLive, children, entity_node, is_live, kind_of}
+use Rattle.plir_core.specs.ContextView.{result_types_of}
+use Rattle.plir_core.specs.ContextView.{types_from}
 use Rattle.plir_core.specs.Results.{result_of}
 use Rattle.plir_core.specs.Standing.{IsStanding}
-use Rattle.plir_core.specs.WellFormed.{IsWellFormed}
 use Rattle.plir_core.specs.declared.ptr.Ptr.{Ptr}
 use Rattle.plir_core.specs.declared.ptr.Operation.{Operation as OperationKind}
 use Rattle.plir_core.specs.declared.ptr.Region.{Region as RegionKind}
@@ -31,32 +25,22 @@ use Rattle.plir_core.specs.declared.value.DefiningEntity.TheVariants.{Op, Block}
 use Rattle.plir_core.specs.declared.value.Value.{Value}
 use Rattle.plir_attr_text.specs.Terms.{TypeTerms, no_types, type_before}
 use Rattle.plir_print.specs.HeaderAttrs.{has_header_of}
-use Rattle.plir_print.specs.OpText.{room}
 use Rattle.plir_print.specs.ValueNames.{arguments_of, block_name, results_of, value_name, values_from}
-use Rattle.plir_walk.specs.Tree.{IsUnder, Place, node_at}
-use Rattle.plir_walk.specs.TreeLaws.{node_at-append, under-live}
+use Rattle.plir_walk.specs.Tree.{IsUnder}
 use Rattle.plir_read_ir.specs.IrMeaning.{argument_words}
-use Rattle.plir_read_ir.specs.Mentions.{Mention, Scope, WordIn, argument_of, block_meant, labels_in, nowhere}
-use Rattle.plir_read_ir.specs.Mentions.{operands_named, results_bear, successors_named, uses_named, value_meant}
+use Rattle.plir_read_ir.specs.Mentions.{Scope, WordIn, argument_of, labels_in}
+use Rattle.plir_read_ir.specs.Mentions.{operands_named, results_bear, successors_named, uses_named}
 use Rattle.plir_read_ir.specs.Mentions.{front_mentions, values_bear, values_in}
-use Rattle.plir_roundtrip.specs.Readable.{IsBodyReadable, IsKindReadable, IsOpReadable}
-use Rattle.plir_roundtrip.specs.Written.{argument_term, block_head_term}
-use Rattle.plir_roundtrip.specs.IrReadable.{AreIrReadable, HasReadableText, IsReadableAs}
-use Rattle.plir_roundtrip.specs.IrWritten.{front_of, ir_term_at, names_of, own_header, types_written}
-use Rattle.plir_roundtrip.specs.UsesMeant.{IsMeantAt, IsMeantBelow, IsUseMeant, UsesStand, mentions_of, scope_in}
-use Rattle.plir_roundtrip.specs.UsesWithin.{AreCounted, AreInOneBody, IsBeside, IsWithinReach, UsesWithin}
-use Rattle.plir_roundtrip.proofs.Bearers.{AreBearers, means_it}
-use Rattle.plir_roundtrip.proofs.Bodies.{innermost_at, none_around_root, region_of_block, region_of_op, same_body}
-use Rattle.plir_roundtrip.proofs.Bodies.{scope-step, scope_at}
-use Rattle.plir_roundtrip.proofs.Children.{HasRoom, child_of_region, in_row}
-use Rattle.plir_roundtrip.proofs.Flattened.{all_flat, own_mentions, tree_mentions}
-use Rattle.plir_roundtrip.proofs.OnePlace.{goes, one_place}
+use Rattle.plir_roundtrip.specs.Readable.{IsBodyReadable, IsKindReadable}
+use Rattle.plir_roundtrip.specs.Written.{argument_term}
+use Rattle.plir_roundtrip.specs.IrReadable.{HasReadableText, IsReadableAs}
+use Rattle.plir_roundtrip.specs.IrWritten.{front_of, own_header}
+use Rattle.plir_roundtrip.proofs.Bearers.{AreBearers}
+use Rattle.plir_roundtrip.proofs.Children.{in_row}
+use Rattle.plir_roundtrip.proofs.Flattened.{own_mentions}
 use Rattle.plir_roundtrip.proofs.OpParts.{constant_there}
 use Rattle.plir_roundtrip.proofs.PartLevels.{value_there}
 use Rattle.plir_roundtrip.proofs.Related.{labels_append, values_append}
-use Rattle.plir_roundtrip.proofs.ToldApart.{blocks_apart, values_apart}
-use Rattle.plir_roundtrip.proofs.TypesKept.{operands_live}
-use Rattle.plir_roundtrip.proofs.UsesGood.{all_has}
 
 -- ---- what a node bears
 
@@ -111,8 +95,8 @@ row_once : (e : DefiningEntity) (i n : ℕ) → Distinct (map (value_of_entity e
 row_once e i zero = tt
 row_once e i (suc n) = (
   λ h. let r = row_later e (i + 1) n (value_of_entity e i) h in
-  let same : r.0 ≡ i = ap (λ (v : Value). v.index) r.2 in
-  omega (arith, r.1, same),
+      let same : r.0 ≡ i = ap (λ (v : Value). v.index) r.2 in
+      omega (arith, r.1, same),
   row_once e (i + 1) n,
 )
 
@@ -180,101 +164,101 @@ module _ {K A T : Type 0} (s : ContextView K A T) where
 
 module _ {D K A T E : Type 0} (o : op_set.Ghosts D K A T E) (find : List ℕ → Option K) (isolated : K → Bool)
     (s : ContextView K A T) (st : IsStanding s) (root : Ptr OperationKind) (readable : HasReadableText o find s root)
-    where
-  abbrev Under : IRNode → Type 0
-  Under n = IsUnder (children s) (Operation root) n
+  where
+    abbrev Under : IRNode → Type 0
+    Under n = IsUnder (children s) (Operation root) n
 
-  -- ---- what each node bears
+    -- ---- what each node bears
 
-  abbrev borne : Scope → Value → WordIn OperationKind × Value
-  borne at v = ((at.body, value_name s v), v)
+    abbrev borne : Scope → Value → WordIn OperationKind × Value
+    borne at v = ((at.body, value_name s v), v)
 
-  own_values : (at : Scope) (n : IRNode) → Under n
-      → values_in (own_mentions o isolated s at n) ≡ map (borne at) (values_at s n)
-  own_values at (Region r) under = refl
-  own_values at (BasicBlock b) under =
-      ap (λ ws. values_in (values_bear at.body (argument_of b) 0 ws)) (words_are s (arguments_of s b))
-      ∙ row_borne at.body (value_name s) (argument_of b) 0 (length (types_from s (Block b)))
-  own_values at (Operation p) under = by (kind_of s p) refl (readable.nodes.ops p under)
-    where
-      -- the results by their types
-      with_types : (types : List ℕ) → result_types_of s p ≡ types
-          → map (borne at) (results_of s p)
-          ≡ map (borne at) (map (value_of_entity (Op p)) (range_with_len 0 (length types)))
-      with_types types e =
-          ap (λ (l : List ℕ). map (borne at) (map (value_of_entity (Op p)) (range_with_len 0 (length l)))) e
+    own_values : (at : Scope) (n : IRNode) → Under n
+        → values_in (own_mentions o isolated s at n) ≡ map (borne at) (values_at s n)
+    own_values at (Region r) under = refl
+    own_values at (BasicBlock b) under =
+        ap (λ ws. values_in (values_bear at.body (argument_of b) 0 ws)) (words_are s (arguments_of s b))
+        ∙ row_borne at.body (value_name s) (argument_of b) 0 (length (types_from s (Block b)))
+    own_values at (Operation p) under = by (kind_of s p) refl (readable.nodes.ops p under)
+      where
+        -- the results by their types
+        with_types : (types : List ℕ) → result_types_of s p ≡ types
+            → map (borne at) (results_of s p)
+            ≡ map (borne at) (map (value_of_entity (Op p)) (range_with_len 0 (length types)))
+        with_types types e =
+            ap (λ (l : List ℕ). map (borne at) (map (value_of_entity (Op p)) (range_with_len 0 (length l)))) e
 
-      of_body : IsBodyReadable s p → [] ≡ map (borne at) (results_of s p)
-      of_body b = sym (with_types [] b.results)
+        of_body : IsBodyReadable s p → [] ≡ map (borne at) (results_of s p)
+        of_body b = sym (with_types [] b.results)
 
-      none_used : (k : K) → values_in (uses_named at (own_header o s k p).uses (own_header o s k p).signature) ≡ []
-      none_used k =
-          let h = own_header o s k p in
-          values_append (operands_named at.body h.uses.operands h.signature.operand_types)
-          (successors_named at.region h.uses.successors)
-          ∙ ap₂ (λ a b. a ++ b) (no_values at.body h.uses.operands h.signature.operand_types)
-          (no_more_values at.region h.uses.successors)
+        none_used : (k : K) → values_in (uses_named at (own_header o s k p).uses (own_header o s k p).signature) ≡ []
+        none_used k =
+            let h = own_header o s k p in
+            values_append (operands_named at.body h.uses.operands h.signature.operand_types)
+            (successors_named at.region h.uses.successors)
+            ∙ ap₂ (λ a b. a ++ b) (no_values at.body h.uses.operands h.signature.operand_types)
+            (no_more_values at.region h.uses.successors)
 
-      by : (kind : Option (OpKind K)) → kind_of s p ≡ kind → IsReadableAs o find s kind p
-          → values_in (front_mentions isolated at (Operation p) (front_of o s kind p))
-          ≡ map (borne at) (results_of s p)
-      by (Some Module) is r = of_body (subst (λ z. IsKindReadable s z p) is r.kind)
-      by (Some Func) is r = of_body (subst (λ z. IsKindReadable s z p) is r.kind)
-      by (Some Constant) is r =
-          let c = constant_there s p (subst (λ z. has_header_of s z p ≡ true) is r.header) in
-          sym (with_types (c.handle ∷ []) c.result)
-      by (Some ForwardRef) is r = absurd (subst (λ z. IsKindReadable s z p) is r.kind)
-      by (Some (Own k)) is r =
-          let h = own_header o s k p in
-          values_append (results_bear at.body (Operation p) h.names) (uses_named at h.uses h.signature)
-          ∙ ap₂ (λ a b. a ++ b)
-          (row_borne at.body (value_name s) (result_of p) 0 (length (types_from s (Op p)))) (none_used k)
-          ∙ append-nil (map (borne at) (results_of s p))
-      by None is r = absurd (subst (λ z. IsKindReadable s z p) is r.kind)
+        by : (kind : Option (OpKind K)) → kind_of s p ≡ kind → IsReadableAs o find s kind p
+            → values_in (front_mentions isolated at (Operation p) (front_of o s kind p))
+            ≡ map (borne at) (results_of s p)
+        by (Some Module) is r = of_body (subst (λ z. IsKindReadable s z p) is r.kind)
+        by (Some Func) is r = of_body (subst (λ z. IsKindReadable s z p) is r.kind)
+        by (Some Constant) is r =
+            let c = constant_there s p (subst (λ z. has_header_of s z p ≡ true) is r.header) in
+            sym (with_types (c.handle ∷ []) c.result)
+        by (Some ForwardRef) is r = absurd (subst (λ z. IsKindReadable s z p) is r.kind)
+        by (Some (Own k)) is r =
+            let h = own_header o s k p in
+            values_append (results_bear at.body (Operation p) h.names) (uses_named at h.uses h.signature)
+            ∙ ap₂ (λ a b. a ++ b)
+            (row_borne at.body (value_name s) (result_of p) 0 (length (types_from s (Op p)))) (none_used k)
+            ∙ append-nil (map (borne at) (results_of s p))
+        by None is r = absurd (subst (λ z. IsKindReadable s z p) is r.kind)
 
-  abbrev labelled : Scope → Ptr BlockKind → WordIn RegionKind × Ptr BlockKind
-  labelled at b = ((at.region, block_name s b), b)
+    abbrev labelled : Scope → Ptr BlockKind → WordIn RegionKind × Ptr BlockKind
+    labelled at b = ((at.region, block_name s b), b)
 
-  own_labels : (at : Scope) (n : IRNode) → Under n
-      → labels_in (own_mentions o isolated s at n) ≡ map (labelled at) (blocks_at s n)
-  own_labels at (Region r) under = refl
-  own_labels at (BasicBlock b) under =
-      ap (λ l. labelled at b ∷ l)
-      (unlabelled at.body (argument_of b) 0 (argument_words (map (argument_term s) (arguments_of s b))))
-  own_labels at (Operation p) under = by (kind_of s p)
-    where
-      by : (kind : Option (OpKind K))
-          → labels_in (front_mentions isolated at (Operation p) (front_of o s kind p)) ≡ []
-      by (Some Module) = refl
-      by (Some Func) = refl
-      by (Some Constant) = refl
-      by (Some ForwardRef) = refl
-      by (Some (Own k)) =
-          let h = own_header o s k p in
-          labels_append (results_bear at.body (Operation p) h.names) (uses_named at h.uses h.signature)
-          ∙ ap₂ (λ a b. a ++ b) (unlabelled at.body (result_of p) 0 h.names)
-          (labels_append (operands_named at.body h.uses.operands h.signature.operand_types)
-          (successors_named at.region h.uses.successors)
-          ∙ ap₂ (λ a b. a ++ b) (no_labels at.body h.uses.operands h.signature.operand_types)
-          (no_more_labels at.region h.uses.successors))
-      by None = refl
+    own_labels : (at : Scope) (n : IRNode) → Under n
+        → labels_in (own_mentions o isolated s at n) ≡ map (labelled at) (blocks_at s n)
+    own_labels at (Region r) under = refl
+    own_labels at (BasicBlock b) under =
+        ap (λ l. labelled at b ∷ l)
+        (unlabelled at.body (argument_of b) 0 (argument_words (map (argument_term s) (arguments_of s b))))
+    own_labels at (Operation p) under = by (kind_of s p)
+      where
+        by : (kind : Option (OpKind K))
+            → labels_in (front_mentions isolated at (Operation p) (front_of o s kind p)) ≡ []
+        by (Some Module) = refl
+        by (Some Func) = refl
+        by (Some Constant) = refl
+        by (Some ForwardRef) = refl
+        by (Some (Own k)) =
+            let h = own_header o s k p in
+            labels_append (results_bear at.body (Operation p) h.names) (uses_named at h.uses h.signature)
+            ∙ ap₂ (λ a b. a ++ b) (unlabelled at.body (result_of p) 0 h.names)
+            (labels_append (operands_named at.body h.uses.operands h.signature.operand_types)
+            (successors_named at.region h.uses.successors)
+            ∙ ap₂ (λ a b. a ++ b) (no_labels at.body h.uses.operands h.signature.operand_types)
+            (no_more_labels at.region h.uses.successors))
+        by None = refl
 
-  pub value_bearers : AreBearers o isolated s st values_in (values_at s) (λ v. entity_node v.entity) (value_name s)
-      (λ at. at.body) (Operation root)
-  value_bearers = record {
-    nothing = refl;
-    joined = values_append;
-    own = own_values;
-    once = values_once s;
-    homes = values_home s;
-  }
+    pub value_bearers : AreBearers o isolated s st values_in (values_at s) (λ v. entity_node v.entity) (value_name s)
+        (λ at. at.body) (Operation root)
+    value_bearers = record {
+      nothing = refl;
+      joined = values_append;
+      own = own_values;
+      once = values_once s;
+      homes = values_home s;
+    }
 
-  pub label_bearers : AreBearers o isolated s st labels_in (blocks_at s) (λ b. BasicBlock b) (block_name s)
-      (λ at. at.region) (Operation root)
-  label_bearers = record {
-    nothing = refl;
-    joined = labels_append;
-    own = own_labels;
-    once = blocks_once s;
-    homes = blocks_home s;
-  }
+    pub label_bearers : AreBearers o isolated s st labels_in (blocks_at s) (λ b. BasicBlock b) (block_name s)
+        (λ at. at.region) (Operation root)
+    label_bearers = record {
+      nothing = refl;
+      joined = labels_append;
+      own = own_labels;
+      once = blocks_once s;
+      homes = blocks_home s;
+    }

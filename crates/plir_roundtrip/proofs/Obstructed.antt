@@ -7,7 +7,6 @@ use Rattle.plir_core.specs.declared.ptr.Ptr.{Ptr}
 use Rattle.plir_core.specs.declared.ptr.Operation.{Operation as OperationKind}
 use Rattle.plir_core.specs.declared.ptr.IRNode.{IRNode}
 use Rattle.plir_core.specs.declared.ptr.IRNode.TheVariants.{Operation, BasicBlock}
-use Rattle.plir_core.specs.declared.value.DefiningEntity.{DefiningEntity}
 use Rattle.plir_core.specs.declared.value.DefiningEntity.TheVariants.{Op, Block}
 use Rattle.plir_walk.specs.Tree.{IsUnder}
 use Rattle.plir_roundtrip.specs.IrReadable.{AreIrReadable, HasReadableText}

@@ -93,8 +93,8 @@ module _ {K A T S B : Type 0} (w : WalkConfig) (post : Relation (ContextView K A
       (h.walk.answers.2 n).1 (
         under,
         λ out. let x = out.skipped.0 in
-        never_skips (Good c0 x.node) (Found c0 x.node) x.answer
-        (each h.calls c0 s0 c0 s1 refl h.chain x out.skipped.1) out.skipped.3,
+            never_skips (Good c0 x.node) (Found c0 x.node) x.answer
+            (each h.calls c0 s0 c0 s1 refl h.chain x out.skipped.1) out.skipped.3,
       ) in
       let x = call_of h.calls n called in
       let answer : Answered n x.0.answer =

@@ -1,13 +1,13 @@
 -- Different values of one context have different names, and different blocks different labels, whatever names are given
 -- them: a name ends in numbers that tell which slot it is, under which version, and at which place.
-use Rattle.std.proofs.Common.{◌≡◌, ℕ, ◌+◌, ◌<◌, ◌≤◌, ◌^◌, Bool, true, false, cond, List, [], ◌∷◌, ◌++◌, codes, decimal}
-use Rattle.std.proofs.Common.{is_some, inl, inr, refl, sym, ap, subst, ◌∙◌, arith, append_assoc, length, ◌==◌, ◌&&◌}
+use Rattle.std.proofs.Common.{◌≡◌, ℕ, ◌+◌, ◌<◌, ◌^◌, true, false, cond, List, [], ◌∷◌, ◌++◌, codes, decimal}
+use Rattle.std.proofs.Common.{is_some, inl, inr, refl, sym, ap, ◌∙◌, arith, append_assoc, length, ◌==◌}
 use Rattle.std.proofs.lemmas.Bool.{and_parts, and_right, cases_lt, eqb-true}
 use Rattle.std.proofs.lemmas.Fmt.{decimal_injective}
 use Rattle.std.proofs.lemmas.List.{append_cancel_right, get_or_past}
 use Rattle.plir_store.specs.Table.{Table, Cell, IsTable, content_at, is_live_at, no_cell, version_at}
 use Rattle.plir_data.specs.Identifier.{is_digit}
-use Rattle.plir_core.specs.ContextView.{ContextView, IsLive, entity_node, label_of, types_from}
+use Rattle.plir_core.specs.ContextView.{ContextView, IsLive, entity_node, label_of}
 use Rattle.plir_core.specs.Nodes.{index_of}
 use Rattle.plir_core.specs.Stored.{IsStored}
 use Rattle.plir_core.specs.Texts.{pointer_text}

@@ -1,23 +1,17 @@
 -- Where each operation of a tree uses what it can name, each name means what it was written for.
-use Rattle.std.proofs.Common.{◌≡◌, ℕ, zero, suc, ◌+◌, ◌<◌, ◌≤◌, ◌^◌, Bool, true, List, [], ◌∷◌, ◌++◌, All, length, map, inl, inr}
-use Rattle.std.proofs.Common.{Option, Some, None, refl, sym, ap, ap₂, subst, ◌∙◌, arith, append-nil}
-use Rattle.std.specs.List.{range_with_len}
-use Rattle.std.specs.Prelude.{slice_get, MatchOption, nat_lt, option_and_then}
-use Rattle.std.proofs.lemmas.Bool.{and_parts, ltb-true}
+use Rattle.std.proofs.Common.{◌≡◌, ℕ, Bool, List, [], ◌∷◌, ◌++◌, inl}
+use Rattle.std.proofs.Common.{Option, Some, None, refl, sym, ap, subst, ◌∙◌, arith}
+use Rattle.std.specs.Prelude.{slice_get, MatchOption, option_and_then}
 use Rattle.std.proofs.lemmas.Option.{none-some}
-use Rattle.plir_data.specs.declared.op_set.OpKind.{OpKind}
-use Rattle.plir_data.specs.declared.op_set.OpKind.TheVariants.{Module, Func, Constant, ForwardRef, Own}
 use Rattle.plir_data.specs.declared.op_set.OpSet as op_set
 use Rattle.plir_names.specs.declared.names.Meaning.TheVariants.{Only}
-use Rattle.plir_store.specs.MemberLaws.{Distinct-one, Has-at, Has-map, at-Has}
-use Rattle.plir_store.specs.Members.{Has, Distinct}
+use Rattle.plir_store.specs.MemberLaws.{at-Has}
+use Rattle.plir_store.specs.Members.{Has}
 use Rattle.plir_core.specs.Above.{climb}
-use Rattle.plir_core.specs.Contents.{OpView}
-use Rattle.plir_core.specs.ContextView.{ContextView, IsLive, IsValueLive, children, entity_node, is_live, kind_of, op_at}
-use Rattle.plir_core.specs.ContextView.{operands_in, operands_of, parent_of, region_above, result_types_of}
-use Rattle.plir_core.specs.ContextView.{successors_of, types_from}
+use Rattle.plir_core.specs.ContextView.{ContextView, IsLive, IsValueLive, children, entity_node}
+use Rattle.plir_core.specs.ContextView.{operands_of, parent_of}
+use Rattle.plir_core.specs.ContextView.{successors_of}
 use Rattle.plir_core.specs.Forest.{look}
-use Rattle.plir_core.specs.Results.{result_of}
 use Rattle.plir_core.specs.Standing.{IsStanding}
 use Rattle.plir_core.specs.WellFormed.{IsWellFormed}
 use Rattle.plir_core.specs.declared.ptr.Ptr.{Ptr}
@@ -26,35 +20,24 @@ use Rattle.plir_core.specs.declared.ptr.Region.{Region as RegionKind}
 use Rattle.plir_core.specs.declared.ptr.BasicBlock.{BasicBlock as BlockKind}
 use Rattle.plir_core.specs.declared.ptr.IRNode.{IRNode}
 use Rattle.plir_core.specs.declared.ptr.IRNode.TheVariants.{Operation, Region, BasicBlock}
-use Rattle.plir_core.specs.declared.value.DefiningEntity.{DefiningEntity}
-use Rattle.plir_core.specs.declared.value.DefiningEntity.TheVariants.{Op, Block}
 use Rattle.plir_core.specs.declared.value.Value.{Value}
-use Rattle.plir_attr_text.specs.Terms.{TypeTerms, no_types, type_before}
-use Rattle.plir_print.specs.HeaderAttrs.{has_header_of}
 use Rattle.plir_print.specs.OpText.{room}
-use Rattle.plir_print.specs.ValueNames.{arguments_of, block_name, results_of, value_name, values_from}
+use Rattle.plir_print.specs.ValueNames.{block_name, value_name}
 use Rattle.plir_walk.specs.Tree.{IsUnder, Place, node_at}
 use Rattle.plir_walk.specs.TreeLaws.{node_at-append, under-live}
-use Rattle.plir_read_ir.specs.IrMeaning.{argument_words}
-use Rattle.plir_read_ir.specs.Mentions.{Mention, Scope, WordIn, argument_of, block_meant, labels_in, nowhere}
-use Rattle.plir_read_ir.specs.Mentions.{operands_named, results_bear, successors_named, uses_named, value_meant}
-use Rattle.plir_read_ir.specs.Mentions.{front_mentions, values_bear, values_in}
-use Rattle.plir_roundtrip.specs.Readable.{IsBodyReadable, IsKindReadable, IsOpReadable}
-use Rattle.plir_roundtrip.specs.Written.{argument_term, block_head_term}
-use Rattle.plir_roundtrip.specs.IrReadable.{AreIrReadable, HasReadableText, IsReadableAs}
-use Rattle.plir_roundtrip.specs.IrWritten.{front_of, ir_term_at, names_of, own_header, types_written}
-use Rattle.plir_roundtrip.specs.UsesMeant.{IsMeantAt, IsMeantBelow, IsUseMeant, UsesStand, mentions_of, scope_in}
+use Rattle.plir_read_ir.specs.Mentions.{Mention, Scope, block_meant, labels_in, nowhere}
+use Rattle.plir_read_ir.specs.Mentions.{value_meant}
+use Rattle.plir_read_ir.specs.Mentions.{values_in}
+use Rattle.plir_roundtrip.specs.IrReadable.{HasReadableText}
+use Rattle.plir_roundtrip.specs.UsesMeant.{IsMeantAt, IsMeantBelow, UsesStand, mentions_of, scope_in}
 use Rattle.plir_roundtrip.specs.UsesWithin.{AreCounted, AreInOneBody, IsBeside, IsWithinReach, UsesWithin}
-use Rattle.plir_roundtrip.proofs.Bearers.{AreBearers, means_it}
+use Rattle.plir_roundtrip.proofs.Bearers.{means_it}
 use Rattle.plir_roundtrip.proofs.Bodies.{innermost_at, none_around_root, region_of_block, region_of_op, same_body}
 use Rattle.plir_roundtrip.proofs.Bodies.{scope-step, scope_at}
-use Rattle.plir_roundtrip.proofs.Children.{HasRoom, child_of_region, in_row}
-use Rattle.plir_roundtrip.proofs.Flattened.{all_flat, own_mentions, tree_mentions}
+use Rattle.plir_roundtrip.proofs.Children.{HasRoom, child_of_region}
+use Rattle.plir_roundtrip.proofs.Flattened.{all_flat, tree_mentions}
 use Rattle.plir_roundtrip.proofs.NodesBear.{blocks_at, counted, label_bearers, live_there, value_bearers, values_at}
-use Rattle.plir_roundtrip.proofs.OnePlace.{goes, one_place}
-use Rattle.plir_roundtrip.proofs.OpParts.{constant_there}
-use Rattle.plir_roundtrip.proofs.PartLevels.{value_there}
-use Rattle.plir_roundtrip.proofs.Related.{labels_append, values_append}
+use Rattle.plir_roundtrip.proofs.OnePlace.{one_place}
 use Rattle.plir_roundtrip.proofs.TermLevels.{map_same}
 use Rattle.plir_roundtrip.proofs.ToldApart.{blocks_apart, values_apart}
 use Rattle.plir_roundtrip.proofs.TypesKept.{operands_live}

@@ -4,7 +4,6 @@ use Rattle.std.specs.Prelude.{All}
 use Rattle.plir_data.specs.declared.op_set.OpSet as op_set
 use Rattle.plir_core.specs.declared.ptr.Ptr.{Ptr}
 use Rattle.plir_core.specs.declared.ptr.Operation.{Operation as OperationKind}
-use Rattle.plir_core.specs.declared.ptr.Region.{Region as RegionKind}
 use Rattle.plir_core.specs.declared.ptr.BasicBlock.{BasicBlock as BlockKind}
 use Rattle.plir_core.specs.declared.ptr.IRNode.{IRNode}
 use Rattle.plir_core.specs.declared.ptr.IRNode.TheVariants.{Operation, Region, BasicBlock}
@@ -16,7 +15,7 @@ use Rattle.plir_read_ir.specs.IrTerms.{op_levels}
 use Rattle.plir_roundtrip.specs.Readable.{IsBlockReadable}
 use Rattle.plir_roundtrip.specs.IrReadable.{AreIrReadable, HasReadableText, IsIrOpReadable}
 use Rattle.plir_roundtrip.specs.IrWritten.{ir_term_of}
-use Rattle.plir_roundtrip.specs.UsesWithin.{AreCounted, IsBeside, IsWithinReach, StandsAround, is_kind_isolated}
+use Rattle.plir_roundtrip.specs.UsesWithin.{IsBeside, IsWithinReach, StandsAround, is_kind_isolated}
 use Rattle.plir_roundtrip.specs.declared.obstacle.Obstacle.{Obstacle}
 use Rattle.plir_roundtrip.specs.declared.obstacle.Obstacle.TheVariants.{Node, Levels, Operand, Successor}
 use Rattle.plir_roundtrip.specs.declared.reach.Body.{Body}

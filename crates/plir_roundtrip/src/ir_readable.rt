@@ -45,7 +45,7 @@ fn find_unreadable<D: ReadSet>(ctx: &Context<D>, op: Ptr<Operation>) -> Option<I
     ensures { MatchOption result
         (AreIrReadable D.OpSet D.find_kind ctx.now (AnyNode.Operation op) × AreCounted ctx.now (AnyNode.Operation op))
         (λ n. IsUnder (children ctx.now) (AnyNode.Operation op) n ×
-            (IsIrNodeReadable D.OpSet D.find_kind ctx.now n → ⊥)) }
+        (IsIrNodeReadable D.OpSet D.find_kind ctx.now n → ⊥)) }
 {
     ctx.stands();
     let look = |ctx: &Context<D>, _state: &mut (), node: IRNode| -> WalkResult<IRNode>

@@ -8,9 +8,9 @@ ghost use Rattle.plir_read_ir.specs.IrGrammar.{own_kind};
 ghost use Rattle.plir_roundtrip.specs.IrReadable.{IsId, IsIrOpReadable, IsOwnReadable, IsUseReadable};
 ghost use Rattle.plir_roundtrip.specs.Obstacles.{AreIdsApart, IsIrNodeReadable, IsNodeCounted};
 
+use crate::entries::are_entries_readable;
 use crate::nodes::{is_block_readable, is_op_readable};
 use crate::values::{are_values_readable, is_name_or_none, is_value_readable, num_values};
-use crate::entries::are_entries_readable;
 use plir_core::{Context, DefiningEntity, IRNode, Operation, Ptr};
 use plir_data::{OpKind, is_identifier};
 use plir_read_own::ReadSet;

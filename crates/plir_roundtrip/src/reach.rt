@@ -42,13 +42,7 @@ fn isolated_at<D: ReadSet>(ctx: &Context<D>, node: Option<IRNode>) -> Option<Ptr
     ensures { result ≡ as_isolated D.is_isolated ctx.now node }
 {
     match node {
-        Some(IRNode::Operation(op)) => {
-            if is_isolated(ctx, op) {
-                Some(op)
-            } else {
-                None
-            }
-        }
+        Some(IRNode::Operation(op)) => { if is_isolated(ctx, op) { Some(op) } else { None } }
         Some(IRNode::Region(_)) => None,
         Some(IRNode::BasicBlock(_)) => None,
         None => None,

@@ -55,7 +55,11 @@ pub(crate) fn num_values<D: OpSet>(ctx: &Context<D>, entity: DefiningEntity) -> 
 }
 
 /// The type of a result or an argument.
-pub(crate) fn type_at<D: OpSet>(ctx: &Context<D>, entity: DefiningEntity, place: usize) -> TypeHandle
+pub(crate) fn type_at<D: OpSet>(
+    ctx: &Context<D>,
+    entity: DefiningEntity,
+    place: usize,
+) -> TypeHandle
     requires live { IsLive ctx.now (entity_node entity) }
     requires below { place < length (types_from ctx.now entity) }
     ensures value { slice_get (types_from ctx.now entity) place ≡ Some result }
@@ -68,7 +72,11 @@ pub(crate) fn type_at<D: OpSet>(ctx: &Context<D>, entity: DefiningEntity, place:
 }
 
 /// Whether a result or an argument can be read.
-pub(crate) fn is_value_readable<D: OpSet>(ctx: &Context<D>, entity: DefiningEntity, place: usize) -> bool
+pub(crate) fn is_value_readable<D: OpSet>(
+    ctx: &Context<D>,
+    entity: DefiningEntity,
+    place: usize,
+) -> bool
     requires live { IsLive ctx.now (entity_node entity) }
     requires below { place < length (types_from ctx.now entity) }
     ensures { IsTrue result ↔ IsValueReadable ctx.now entity place }

@@ -3,7 +3,7 @@ use Rattle.plir_roundtrip.proofs.ir_readable.look_at_node.Goals as goal
 
 pub returns-then-is_ir_node_readable : goal.returns-then-is_ir_node_readable
 returns-then-is_ir_node_readable g c =
-    inl ((c.is_ir_node_readable.ensures.0 c.if-is_ir_node_readable.true, c.count-_few.ensures), c.walk_advance.ensures)
+    inl ((c.is_ir_node_readable.ensures.0 c.if-is_ir_node_readable.true, c.count-few.ensures), c.walk_advance.ensures)
 
 pub returns-else-is_ir_node_readable : goal.returns-else-is_ir_node_readable
 returns-else-is_ir_node_readable g c =

@@ -1,4 +1,4 @@
-use Rattle.std.proofs.Common.{◌≡◌, true, Some, None, sym, ap, ◌∙◌, lit<}
+use Rattle.std.proofs.Common.{Some, None, sym, ap, ◌∙◌, lit<}
 use Rattle.std.proofs.lemmas.Bool.{false≢true}
 use Rattle.std.proofs.lemmas.Str.Pattern.{split_once_first}
 use Rattle.plir_data.specs.Identifier.{is_identifier}

@@ -1,6 +1,6 @@
-use Rattle.std.proofs.Common.{◌≡◌, true, Some, sym, subst, ◌∙◌}
+use Rattle.std.proofs.Common.{◌≡◌, true, sym, subst, ◌∙◌}
 use Rattle.plir_core.specs.declared.ptr.IRNode.TheVariants.{Operation}
-use Rattle.plir_roundtrip.proofs.Climbs.{IsClimbing, climb_ends, climb_more, climb_starts, climb_whole, fewer_left}
+use Rattle.plir_roundtrip.proofs.Climbs.{IsClimbing, climb_ends, climb_more, climb_whole, fewer_left}
 use Rattle.plir_roundtrip.proofs.Climbs.{live_over, steps_left}
 use Rattle.plir_core.specs.Measures.{depth}
 use Rattle.std.proofs.Common.{◌<◌}

@@ -1,4 +1,4 @@
-use Rattle.std.proofs.Common.{◌≡◌, sym, subst}
+use Rattle.std.proofs.Common.{sym, subst}
 use Rattle.plir_core.specs.ContextView.{IsLive, children}
 use Rattle.plir_core.specs.Forest.{look}
 use Rattle.plir_core.specs.declared.ptr.IRNode.TheVariants.{Operation}
