@@ -3,6 +3,7 @@
 #include "mlir_modules.h"
 #include "mlir_passes.h"
 
+#include "mlir/Dialect/Func/Extensions/InlinerExtension.h"
 #include "mlir/IR/MLIRContext.h"
 #include "mlir/IR/SymbolTable.h"
 #include "mlir/Parser/Parser.h"
@@ -164,6 +165,7 @@ class Bench {
         {"chains", &Modules::chains},            {"blocks", &Modules::blocks},
         {"sums", &Modules::sums},                {"zeros", &Modules::zeros},
         {"references", &Modules::references},    {"users", &Modules::users},
+        {"calls", &Modules::calls},              {"callers", &Modules::callers},
         {"symbol-chain", &Modules::symbolChain}, {"symbol-star", &Modules::symbolStar},
     };
     for (auto [name, shape] : shapes) {
@@ -187,6 +189,8 @@ class Bench {
       return bench::convert(root());
     if (word == "drop-symbols")
       return bench::runPass(root(), mlir::createSymbolDCEPass());
+    if (word == "inline")
+      return bench::runPass(root(), mlir::createInlinerPass({}, [](mlir::OpPassManager &) {}));
     return -1;
   }
 
@@ -204,6 +208,9 @@ class Bench {
 
 public:
   Bench() {
+    mlir::DialectRegistry registry;
+    mlir::func::registerInlinerExtension(registry);
+    context.appendDialectRegistry(registry);
     context.loadDialect<mlir::func::FuncDialect, mlir::arith::ArithDialect, mlir::cf::ControlFlowDialect,
                         bench::BenchDialect>();
     context.allowUnregisteredDialects();

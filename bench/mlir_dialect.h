@@ -4,6 +4,7 @@
 #include "mlir/IR/Dialect.h"
 #include "mlir/IR/OpDefinition.h"
 #include "mlir/Interfaces/SideEffectInterfaces.h"
+#include "mlir/Transforms/InliningUtils.h"
 
 namespace bench {
 
@@ -49,11 +50,18 @@ public:
   }
 };
 
+// All operations may be inlined.
+struct BenchInliner : mlir::DialectInlinerInterface {
+  using DialectInlinerInterface::DialectInlinerInterface;
+  bool isLegalToInline(mlir::Operation *, mlir::Region *, bool, mlir::IRMapping &) const final { return true; }
+};
+
 class BenchDialect : public mlir::Dialect {
 public:
   explicit BenchDialect(mlir::MLIRContext *context)
       : Dialect(getDialectNamespace(), context, mlir::TypeID::get<BenchDialect>()) {
     addOperations<StepOp, KeepOp, ReferenceOp>();
+    addInterfaces<BenchInliner>();
   }
   static llvm::StringRef getDialectNamespace() { return "bench"; }
 };

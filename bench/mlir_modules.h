@@ -84,6 +84,30 @@ class Modules {
     keep(last);
   }
 
+  // The function of number 0, which hands on its argument through ten steps.
+  mlir::func::FuncOp callee() {
+    auto none = builder.getNoneType();
+    auto func = mlir::func::FuncOp::create(place, name(0), builder.getFunctionType(none, none));
+    put(func);
+    builder.setInsertionPointToEnd(func.addEntryBlock());
+    mlir::Value last = func.getArgument(0);
+    for (int i = 0; i < 10; i++)
+      last = builder.create<StepOp>(place, none, last);
+    builder.create<mlir::func::ReturnOp>(place, last);
+    builder.clearInsertionPoint();
+    return func;
+  }
+
+  // A function with so many calls, each with what the one before handed back, and what uses the last.
+  void addCaller(mlir::func::FuncOp called, uint64_t number, uint64_t calls) {
+    builder.setInsertionPointToEnd(&function(name(number)).getBody().front());
+    mlir::Value last = builder.create<StepOp>(place, builder.getNoneType(), mlir::ValueRange());
+    for (uint64_t i = 0; i < calls; i++)
+      last = builder.create<mlir::func::CallOp>(place, called, last).getResult(0);
+    builder.create<KeepOp>(place, mlir::TypeRange(), last);
+    builder.clearInsertionPoint();
+  }
+
 public:
   // Two values, of which each can come in place of the other.
   mlir::Value first, second;
@@ -169,6 +193,14 @@ public:
     second = step({});
     for (uint64_t i = 0; i < number; i++)
       keep(first);
+  }
+
+  void calls(uint64_t number) { addCaller(callee(), 1, number); }
+
+  void callers(uint64_t number) {
+    auto called = callee();
+    for (uint64_t i = 0; i < number; i++)
+      addCaller(called, i + 1, 1);
   }
 
   void symbolChain(uint64_t number) {

@@ -72,6 +72,8 @@ PASSES = (
     ("constants folded, a sum", "sums", "fold", 1),
     ("values folded, a sum", "zeros", "pass-on", 1),
     ("operations converted, an operation", "references", "convert", 1),
+    ("calls of one function inlined, a call", "calls", "inline", 1),
+    ("calls of many functions inlined, a call", "callers", "inline", 1),
     ("dead symbols of a chain erased, a symbol", "symbol-chain", "drop-symbols", 1),
     ("dead symbols of a star erased, a symbol", "symbol-star", "drop-symbols", 1),
 )

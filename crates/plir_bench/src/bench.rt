@@ -4,7 +4,8 @@ ghost use Rattle.plir_core.specs.ContextView.{IsLive};
 ghost use Rattle.plir_core.specs.declared.ptr.IRNode.{IRNode as AnyNode};
 
 use crate::blocks::build_blocks;
-use crate::building::{build_bare, build_functions};
+use crate::building::{build_bare, build_functions, live_op};
+use crate::calls::{build_callers, build_calls};
 use crate::chains::{build_chains, build_references};
 use crate::command::{Command, Edit, Look, Shape, Task, read_command};
 use crate::kinds::BenchSet;
@@ -135,10 +136,9 @@ impl Bench {
     fn root(&self, ctx: &Context<BenchSet>) -> Result<Ptr<Operation>, Stop>
         ensures { IfOk result (λ op. IsLive ctx.now (AnyNode.Operation op)) }
     {
-        match self.root {
-            Some(op) if op.is_live(ctx) => Ok(op),
-            _ => Err(Stop::Refused),
-        }
+        let root = self.root.ok_or(Stop::Refused)?;
+        live_op(ctx, root)?;
+        Ok(root)
     }
 
     // The two values of the module that was built last of those that have such.
@@ -163,6 +163,8 @@ fn build_shape(
         Shape::Sums => build_sums(alloc, ctx, number, order),
         Shape::Zeros => build_zeros(alloc, ctx, number, order),
         Shape::References => build_references(alloc, ctx, number, order),
+        Shape::Calls => build_calls(alloc, ctx, number, order),
+        Shape::Callers => build_callers(alloc, ctx, number, order),
         Shape::SymbolChain => build_symbol_chain(alloc, ctx, number, order),
         Shape::SymbolStar => build_symbol_star(alloc, ctx, number, order),
         Shape::Users => Err(Stop::Refused),

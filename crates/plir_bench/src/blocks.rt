@@ -1,14 +1,14 @@
 //! Chains of blocks.
-ghost use Rattle.std.specs.Prelude.{All, IfOk, IsSome, IsTrue};
-ghost use Rattle.plir_core.specs.ContextView.{IsLive, IsValueLive, parent_of};
+ghost use Rattle.std.specs.Prelude.{IsSome, OnOk};
+ghost use Rattle.plir_core.specs.ContextView.{IsLive, parent_of};
 ghost use Rattle.plir_core.specs.declared.ptr.IRNode.{IRNode as AnyNode};
 
-use crate::building::{add_op, body_of, build_functions, first_result, live_block};
-use crate::chains::unit_types;
+use crate::building::{body_of, build_functions, live_block, make_block, make_op};
+use crate::chains::{add_user, add_value};
 use crate::kinds::BenchSet;
-use crate::order::Order;
+use crate::order::{Order, first_op, put_op};
 use crate::stop::Stop;
-use plir_core::{BasicBlock, Context, Operation, Ptr, Value};
+use plir_core::{BasicBlock, Context, Operation, Ptr};
 use plir_data::OpKind;
 use std::alloc::Global;
 
@@ -36,25 +36,16 @@ pub fn build_blocks(
     for _ in 0..number {
         last = add_step(alloc, ctx, entry, last, order)?;
     }
-    let operands = list_result(alloc, ctx, Some(last.kept))?;
     live_block(ctx, last.block)?;
-    let none = Vec::new(alloc);
-    add_op(
-        alloc,
-        ctx,
-        last.block,
-        OpKind::Func,
-        none,
-        operands,
-        Order::Along,
-    )?;
+    let (kind, kept) = (OpKind::Func, Some(last.kept));
+    add_user(alloc, ctx, last.block, kind, &[], kept, Order::Along)?;
     Ok(root)
 }
 
 // The entry block of the first function of a module.
 fn first_entry(ctx: &Context<BenchSet>, root: Ptr<Operation>) -> Result<Ptr<BasicBlock>, Stop> {
     let body = body_of(ctx, root)?;
-    let func = body.get_head(ctx).ok_or(Stop::Refused)?;
+    let func = first_op(ctx, body).ok_or(Stop::Refused)?;
     body_of(ctx, func)
 }
 
@@ -75,12 +66,16 @@ fn add_step(
     fill_block(alloc, ctx, block, Some(last))
 }
 
-// Whether a block is live and stands in a region.
-fn is_placed(ctx: &Context<BenchSet>, block: Ptr<BasicBlock>) -> bool
-    ensures live { IsTrue result → IsLive ctx.now (AnyNode.BasicBlock block) }
-    ensures linked { IsTrue result → IsSome (parent_of ctx.now (AnyNode.BasicBlock block)) }
+// Refuses a block that is not live or stands in no region.
+fn placed_block(ctx: &Context<BenchSet>, block: Ptr<BasicBlock>) -> Result<(), Stop>
+    ensures live { OnOk result (IsLive ctx.now (AnyNode.BasicBlock block)) }
+    ensures linked { OnOk result (IsSome (parent_of ctx.now (AnyNode.BasicBlock block))) }
 {
-    block.is_live(ctx) && block.get_parent_region(ctx).is_some()
+    live_block(ctx, block)?;
+    if block.get_parent_region(ctx).is_none() {
+        return Err(Stop::Refused);
+    }
+    Ok(())
 }
 
 // A new block right behind another one.
@@ -90,10 +85,8 @@ fn add_block_behind(
     mark: Ptr<BasicBlock>,
 ) -> Result<Ptr<BasicBlock>, Stop> {
     live_block(ctx, mark)?;
-    let block = BasicBlock::new(alloc, ctx, None, Vec::new(alloc))?;
-    if !is_placed(ctx, mark) {
-        return Err(Stop::Refused);
-    }
+    let block = make_block(alloc, ctx)?;
+    placed_block(ctx, mark)?;
     block.insert_after(ctx, mark);
     Ok(block)
 }
@@ -107,11 +100,8 @@ fn add_branch(
 ) -> Result<(), Stop> {
     live_block(ctx, from)?;
     live_block(ctx, to)?;
-    let mut successors = Vec::new(alloc);
-    successors.push(to)?;
-    let (types, operands) = (Vec::new(alloc), Vec::new(alloc));
-    let branch = Operation::new(alloc, ctx, OpKind::Func, types, operands, successors, 0)?;
-    branch.insert_at_back(ctx, from);
+    let branch = make_op(alloc, ctx, OpKind::Func, &[], &[], &[to], 0)?;
+    put_op(ctx, from, branch, Order::Along);
     Ok(())
 }
 
@@ -136,31 +126,6 @@ fn add_constant(
     block: Ptr<BasicBlock>,
     used: Option<Ptr<Operation>>,
 ) -> Result<Ptr<Operation>, Stop> {
-    let types = unit_types(alloc, ctx)?;
-    let operands = list_result(alloc, ctx, used)?;
     live_block(ctx, block)?;
-    add_op(
-        alloc,
-        ctx,
-        block,
-        OpKind::Constant,
-        types,
-        operands,
-        Order::Along,
-    )
-}
-
-// A list of the first result of an operation, if there is one.
-fn list_result(
-    alloc: Global,
-    ctx: &Context<BenchSet>,
-    op: Option<Ptr<Operation>>,
-) -> Result<Vec<Value>, Stop>
-    ensures { IfOk result (λ vs. All (IsValueLive ctx.now) vs.items) }
-{
-    let mut values = Vec::new(alloc);
-    if let Some(op) = op {
-        values.push(first_result(ctx, op)?)?;
-    }
-    Ok(values)
+    add_value(alloc, ctx, block, OpKind::Constant, used, Order::Along)
 }

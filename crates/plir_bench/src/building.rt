@@ -9,7 +9,7 @@ use crate::kinds::{BenchKind, BenchSet};
 use crate::order::{Order, put_op};
 use crate::stop::Stop;
 use plir_builtin::{FuncOp, ModuleOp};
-use plir_core::{BasicBlock, Context, NodeErr, Operation, Ptr, Value};
+use plir_core::{BasicBlock, Context, Operation, Ptr, Region, Value};
 use plir_data::{FunctionType, Identifier, OpKind, TypeHandle};
 use std::alloc::Global;
 
@@ -27,7 +27,7 @@ pub fn build_functions(
 ) -> Result<Ptr<Operation>, Stop> {
     let (root, body) = build_root(alloc, ctx)?;
     for number in 0..functions {
-        add_function(alloc, ctx, body, number, Order::Along)?;
+        add_function(alloc, ctx, body, number, &[], Order::Along)?;
     }
     Ok(root)
 }
@@ -59,77 +59,106 @@ pub fn build_root(
     Ok((root, body))
 }
 
-/// Puts the function of a number into a block, without arguments and results.
+/// Puts the function of a number into a block, whose arguments and whose results are of these types.
 pub fn add_function(
     alloc: Global,
     ctx: &mut Context<BenchSet>,
     body: Ptr<BasicBlock>,
     number: u64,
+    types: &[TypeHandle],
     order: Order,
 ) -> Result<Ptr<Operation>, Stop>
-    requires { IsLive ctx.old (AnyNode.BasicBlock body) }
+    requires body_live { IsLive ctx.old (AnyNode.BasicBlock body) }
+    requires types_live { AllLive ctx.old.types types.now }
     ensures { OnOk result (IsLive ctx.new (AnyNode.BasicBlock body)) }
 {
-    let name = name_of(alloc, number)?;
-    let func = make_function(alloc, ctx, name)?;
+    let func = make_function(alloc, ctx, number, types)?;
     put_op(ctx, body, func, order);
     Ok(func)
 }
 
-// A function of a name, without arguments and results, in no block.
+// The function of a number in no block, whose arguments and whose results are of these types.
 fn make_function(
     alloc: Global,
     ctx: &mut Context<BenchSet>,
-    name: Identifier,
-) -> Result<Ptr<Operation>, NodeErr>
+    number: u64,
+    types: &[TypeHandle],
+) -> Result<Ptr<Operation>, Stop>
+    requires { AllLive ctx.old.types types.now }
     ensures { IfOk result (λ p. IsMade ctx.old.nodes ctx.new.nodes (AnyNode.Operation p)) }
 {
-    let ty = FunctionType::get(ctx, Vec::new(alloc), Vec::new(alloc))?;
+    let arguments = Vec::from_slice(alloc, types)?;
+    let results = Vec::from_slice(alloc, types)?;
+    let ty = FunctionType::get(ctx, arguments, results)?;
+    let name = name_of(alloc, number)?;
     let func = FuncOp::new(alloc, ctx, name, ty)?;
     Ok(func.operation())
 }
 
+// Puts an operation with a region and a block behind all that stands in a block.
 fn add_bare(alloc: Global, ctx: &mut Context<BenchSet>, body: Ptr<BasicBlock>) -> Result<(), Stop>
     requires { IsLive ctx.old (AnyNode.BasicBlock body) }
     ensures { OnOk result (IsLive ctx.new (AnyNode.BasicBlock body)) }
 {
-    let results = Vec::new(alloc);
-    let operands = Vec::new(alloc);
-    let successors = Vec::new(alloc);
-    let op = Operation::new(alloc, ctx, OpKind::Func, results, operands, successors, 1)?;
-    op.insert_at_back(ctx, body);
+    let op = make_op(alloc, ctx, OpKind::Func, &[], &[], &[], 1)?;
+    put_op(ctx, body, op, Order::Along);
     add_block(alloc, ctx, op)
 }
 
 // Puts a block into the first region of an operation.
 fn add_block(alloc: Global, ctx: &mut Context<BenchSet>, op: Ptr<Operation>) -> Result<(), Stop>
-    requires { IsLive ctx.old (AnyNode.Operation op) }
     ensures { OnOk result ((n : AnyNode) → IsLive ctx.old n → IsLive ctx.new n) }
 {
-    let region = op.first_region(ctx).ok_or(Stop::Refused)?;
-    let block = BasicBlock::new(alloc, ctx, None, Vec::new(alloc))?;
+    let region = region_of(ctx, op)?;
+    let block = make_block(alloc, ctx)?;
     block.insert_at_back(ctx, region);
     Ok(())
 }
 
-/// Puts an operation without regions into a block, as the order of its operations asks.
+/// A new block without arguments, in no region.
+pub fn make_block(alloc: Global, ctx: &mut Context<BenchSet>) -> Result<Ptr<BasicBlock>, Stop>
+    ensures { IfOk result (λ p. IsMade ctx.old.nodes ctx.new.nodes (AnyNode.BasicBlock p)) }
+{
+    Ok(BasicBlock::new(alloc, ctx, None, Vec::new(alloc))?)
+}
+
+/// A new operation in no block, with so many regions.
+pub fn make_op(
+    alloc: Global,
+    ctx: &mut Context<BenchSet>,
+    kind: OpKind<BenchKind>,
+    types: &[TypeHandle],
+    operands: &[Value],
+    successors: &[Ptr<BasicBlock>],
+    regions: usize,
+) -> Result<Ptr<Operation>, Stop>
+    requires types_live { AllLive ctx.old.types types.now }
+    requires operands_live { All (IsValueLive ctx.old) operands.now }
+    requires successors_live { All (λ b. IsLive ctx.old (AnyNode.BasicBlock b)) successors.now }
+    ensures { IfOk result (λ p. IsMade ctx.old.nodes ctx.new.nodes (AnyNode.Operation p)) }
+{
+    let types = Vec::from_slice(alloc, types)?;
+    let operands = Vec::from_slice(alloc, operands)?;
+    let successors = Vec::from_slice(alloc, successors)?;
+    Ok(Operation::new(alloc, ctx, kind, types, operands, successors, regions)?)
+}
+
+/// Puts an operation without regions and successors into a block, as the order of its operations asks.
 pub fn add_op(
     alloc: Global,
     ctx: &mut Context<BenchSet>,
     body: Ptr<BasicBlock>,
     kind: OpKind<BenchKind>,
-    types: Vec<TypeHandle>,
-    operands: Vec<Value>,
+    types: &[TypeHandle],
+    operands: &[Value],
     order: Order,
 ) -> Result<Ptr<Operation>, Stop>
     requires body_live { IsLive ctx.old (AnyNode.BasicBlock body) }
-    requires types_live { AllLive ctx.old.types types.items }
-    requires operands_live { All (IsValueLive ctx.old) operands.items }
-    ensures body_live { OnOk result (IsLive ctx.new (AnyNode.BasicBlock body)) }
-    ensures live { IfOk result (λ op. IsLive ctx.new (AnyNode.Operation op)) }
+    requires types_live { AllLive ctx.old.types types.now }
+    requires operands_live { All (IsValueLive ctx.old) operands.now }
+    ensures { OnOk result (IsLive ctx.new (AnyNode.BasicBlock body)) }
 {
-    let successors = Vec::new(alloc);
-    let op = Operation::new(alloc, ctx, kind, types, operands, successors, 0)?;
+    let op = make_op(alloc, ctx, kind, types, operands, &[], 0)?;
     put_op(ctx, body, op, order);
     Ok(op)
 }
@@ -138,21 +167,38 @@ pub fn add_op(
 pub fn body_of(ctx: &Context<BenchSet>, op: Ptr<Operation>) -> Result<Ptr<BasicBlock>, Stop>
     ensures { IfOk result (λ block. IsLive ctx.now (AnyNode.BasicBlock block)) }
 {
-    if !op.is_live(ctx) {
-        return Err(Stop::Refused);
-    }
-    let region = op.first_region(ctx).ok_or(Stop::Refused)?;
+    let region = region_of(ctx, op)?;
     region.get_head(ctx).ok_or(Stop::Refused)
+}
+
+// The first region of an operation that is live.
+fn region_of(ctx: &Context<BenchSet>, op: Ptr<Operation>) -> Result<Ptr<Region>, Stop>
+    ensures { IfOk result (λ region. IsLive ctx.now (AnyNode.Region region)) }
+{
+    live_op(ctx, op)?;
+    op.first_region(ctx).ok_or(Stop::Refused)
 }
 
 /// The first result of an operation that is live.
 pub fn first_result(ctx: &Context<BenchSet>, op: Ptr<Operation>) -> Result<Value, Stop>
     ensures { IfOk result (IsValueLive ctx.now) }
 {
-    if !op.is_live(ctx) || op.get_num_results(ctx) == 0 {
+    live_op(ctx, op)?;
+    if op.get_num_results(ctx) == 0 {
         return Err(Stop::Refused);
     }
     Ok(op.get_result(ctx, 0))
+}
+
+/// Refuses an operation that is not live.
+pub fn live_op(ctx: &Context<BenchSet>, op: Ptr<Operation>) -> Result<(), Stop>
+    ensures { OnOk result (IsLive ctx.now (AnyNode.Operation op)) }
+{
+    if op.is_live(ctx) {
+        Ok(())
+    } else {
+        Err(Stop::Refused)
+    }
 }
 
 /// Refuses a block that is not live.

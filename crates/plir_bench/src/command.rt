@@ -2,7 +2,7 @@
 use crate::order::Order;
 
 /// What is measured.
-#[derive(Clone, Copy, Debug, PartialEq, Eq)]
+#[derive(Clone, Copy)]
 pub enum Task {
     /// A module is built, of as many things as its number says.
     Build(Shape, Order),
@@ -17,7 +17,7 @@ pub enum Task {
 }
 
 /// What a module is built of; behind each word may stand `-against`, for the other order.
-#[derive(Clone, Copy, Debug, PartialEq, Eq)]
+#[derive(Clone, Copy)]
 pub enum Shape {
     /// `build N`: so many functions.
     Functions,
@@ -35,6 +35,10 @@ pub enum Shape {
     References,
     /// `users N`: a value with so many uses.
     Users,
+    /// `calls N`: so many calls of a function of ten operations, in one function.
+    Calls,
+    /// `callers N`: so many functions, each with one such call.
+    Callers,
     /// `symbol-chain N`: so many private functions, of which each uses the one made behind it.
     SymbolChain,
     /// `symbol-star N`: so many private functions, half of which one uses, and half another one.
@@ -42,7 +46,7 @@ pub enum Shape {
 }
 
 /// A pass.
-#[derive(Clone, Copy, Debug, PartialEq, Eq)]
+#[derive(Clone, Copy)]
 pub enum Pass {
     /// `sweep`: dead code is eliminated.
     Sweep,
@@ -56,10 +60,12 @@ pub enum Pass {
     Convert,
     /// `drop-symbols`: dead symbols are eliminated.
     DropSymbols,
+    /// `inline`: calls are inlined.
+    Inline,
 }
 
 /// What changes nothing.
-#[derive(Clone, Copy, Debug, PartialEq, Eq)]
+#[derive(Clone, Copy)]
 pub enum Look {
     /// `walk N`: so many walks of all nodes.
     Walk,
@@ -76,7 +82,7 @@ pub enum Look {
 }
 
 /// What may change something.
-#[derive(Clone, Copy, Debug, PartialEq, Eq)]
+#[derive(Clone, Copy)]
 pub enum Edit {
     /// `walk-mut N`: so many walks that could change what they walk.
     WalkMut,
@@ -93,7 +99,7 @@ pub enum Edit {
 }
 
 /// A line: what is measured, and a number, 1 where none is given.
-#[derive(Clone, Copy, Debug, PartialEq, Eq)]
+#[derive(Clone, Copy)]
 pub struct Command {
     pub task: Task,
     pub number: u64,
@@ -162,6 +168,7 @@ fn read_pass(word: &str) -> Option<Pass> {
         "pass-on" => Some(Pass::PassOn),
         "convert" => Some(Pass::Convert),
         "drop-symbols" => Some(Pass::DropSymbols),
+        "inline" => Some(Pass::Inline),
         _ => None,
     }
 }
@@ -176,6 +183,8 @@ fn read_shape(word: &str) -> Option<Shape> {
         "zeros" => Some(Shape::Zeros),
         "references" => Some(Shape::References),
         "users" => Some(Shape::Users),
+        "calls" => Some(Shape::Calls),
+        "callers" => Some(Shape::Callers),
         "symbol-chain" => Some(Shape::SymbolChain),
         "symbol-star" => Some(Shape::SymbolStar),
         _ => None,

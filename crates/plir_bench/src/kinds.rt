@@ -7,21 +7,26 @@ use plir_symbols::{SymbolNameKind, is_marked_private, names_held, num_names_held
 use std::alloc::Global;
 
 /// The kinds of operations that the benchmark has of its own.
-#[derive(Clone, Copy, PartialEq, Eq, Debug)]
+#[derive(Clone, Copy)]
 pub enum BenchKind {
     /// Adds two integers.
     Sum,
+    /// Calls the function of the name under [`ATTR_KEY_CALLEE`](crate::flow::ATTR_KEY_CALLEE), with all its operands.
+    Call,
+    /// Hands its operands back to the call.
+    Return,
 }
 
 /// The builtin operations, and those of the benchmark.
 pub type BenchSet = KindSet<BenchKind>;
 
 impl OwnKind for BenchKind {
-    ghost use Rattle.std.specs.Prelude.{false, codes};
+    ghost use Rattle.std.specs.Prelude.{false};
+    ghost use Rattle.plir_bench.specs.Kinds.{ends_block, id_of};
 
     type Err = NeverRefused;
 
-    ghost is_terminator = { λ _. false };
+    ghost is_terminator = { ends_block };
 
     ghost is_symbol = { λ _. false };
 
@@ -29,10 +34,10 @@ impl OwnKind for BenchKind {
 
     ghost is_symbol_user = { λ _. false };
 
-    ghost id = { λ _. codes "bench.sum" };
+    ghost id = { id_of };
 
     fn is_terminator(self) -> bool {
-        false
+        matches!(self, BenchKind::Return)
     }
 
     fn is_symbol(self) -> bool {
@@ -48,37 +53,47 @@ impl OwnKind for BenchKind {
     }
 
     fn id(self) -> &'static str {
-        "bench.sum"
+        match self {
+            BenchKind::Sum => "bench.sum",
+            BenchKind::Call => "bench.call",
+            BenchKind::Return => "bench.return",
+        }
     }
 }
 
 impl EffectKind for BenchKind {
-    ghost use Rattle.std.specs.Prelude.{false};
+    ghost use Rattle.plir_bench.specs.Kinds.{has_effect};
 
-    ghost has_effect = { λ _. false };
+    ghost has_effect = { has_effect };
 
     fn has_effect(self) -> bool {
-        false
+        !matches!(self, BenchKind::Sum)
     }
 }
 
 impl FoldKind for BenchKind {
-    ghost use Rattle.plir_folding.specs.Sums.{wrapping_sum};
+    ghost use Rattle.plir_bench.specs.Kinds.{fold_of};
 
-    ghost fold = { λ _. wrapping_sum };
+    ghost fold = { fold_of };
 
     fn fold(self, left: &IntegerAttr, right: &IntegerAttr) -> Option<IntegerAttr> {
-        wrapping_sum(left, right)
+        match self {
+            BenchKind::Sum => wrapping_sum(left, right),
+            _ => None,
+        }
     }
 }
 
 impl IdentityKind for BenchKind {
-    ghost use Rattle.plir_folding.specs.Sums.{is_zero};
+    ghost use Rattle.plir_bench.specs.Kinds.{identity_of};
 
-    ghost is_identity = { λ _ _. is_zero };
+    ghost is_identity = { λ kind _. identity_of kind };
 
     fn is_identity(self, _side: Side, constant: &IntegerAttr) -> bool {
-        is_zero(constant)
+        match self {
+            BenchKind::Sum => is_zero(constant),
+            _ => false,
+        }
     }
 }
 

@@ -6,9 +6,11 @@
 mod bench;
 mod blocks;
 mod building;
+mod calls;
 mod chains;
 mod command;
 mod converting;
+mod flow;
 mod kinds;
 mod naming;
 mod order;

@@ -1,6 +1,6 @@
 //! Private symbols, and what uses their names.
 
-use crate::building::{add_function, add_op, body_of, build_root, live_block, name_of};
+use crate::building::{add_function, add_op, body_of, build_root, live_block, live_op, name_of};
 use crate::kinds::BenchSet;
 use crate::order::Order;
 use crate::stop::Stop;
@@ -23,7 +23,7 @@ pub fn build_symbol_chain(
         put_name(alloc, ctx, op, "uses", place + 1)?;
     }
     live_block(ctx, body)?;
-    let public = add_function(alloc, ctx, body, number, order)?;
+    let public = add_function(alloc, ctx, body, number, &[], order)?;
     put_name(alloc, ctx, public, "uses", number / 2)?;
     Ok(root)
 }
@@ -43,7 +43,8 @@ pub fn build_symbol_star(
     let private = add_private(alloc, ctx, body, number, order)?;
     add_users(alloc, ctx, private, 0, number / 2)?;
     live_block(ctx, body)?;
-    let public = add_function(alloc, ctx, body, number.wrapping_add(1), order)?;
+    let last = number.wrapping_add(1);
+    let public = add_function(alloc, ctx, body, last, &[], order)?;
     add_users(alloc, ctx, public, number / 2, number)?;
     Ok(root)
 }
@@ -57,7 +58,7 @@ fn add_private(
     order: Order,
 ) -> Result<Ptr<Operation>, Stop> {
     live_block(ctx, body)?;
-    let op = add_function(alloc, ctx, body, number, order)?;
+    let op = add_function(alloc, ctx, body, number, &[], order)?;
     make_private(alloc, ctx, op)?;
     Ok(op)
 }
@@ -68,11 +69,9 @@ fn make_private(
     ctx: &mut Context<BenchSet>,
     op: Ptr<Operation>,
 ) -> Result<(), Stop> {
+    live_op(ctx, op)?;
     let key = Identifier::try_new(alloc, ATTR_KEY_SYM_VISIBILITY)?;
     let private = StringAttr::try_from_str(alloc, "private")?;
-    if !op.is_live(ctx) {
-        return Err(Stop::Refused);
-    }
     op.set_attr(ctx, key, AttrObj::String(private))?;
     Ok(())
 }
@@ -85,11 +84,9 @@ pub fn put_name(
     key: &str,
     number: u64,
 ) -> Result<(), Stop> {
+    live_op(ctx, op)?;
     let key = Identifier::try_new(alloc, key)?;
     let name = name_of(alloc, number)?;
-    if !op.is_live(ctx) {
-        return Err(Stop::Refused);
-    }
     op.set_attr(ctx, key, AttrObj::Identifier(IdentifierAttr::new(name)))?;
     Ok(())
 }
@@ -117,8 +114,6 @@ fn add_user_of(
     number: u64,
 ) -> Result<(), Stop> {
     live_block(ctx, body)?;
-    let (types, operands) = (Vec::new(alloc), Vec::new(alloc));
-    let kind = OpKind::ForwardRef;
-    let user = add_op(alloc, ctx, body, kind, types, operands, Order::Along)?;
+    let user = add_op(alloc, ctx, body, OpKind::ForwardRef, &[], &[], Order::Along)?;
     put_name(alloc, ctx, user, "uses", number)
 }

@@ -2,11 +2,12 @@
 use plir_builtin::SymbolTableErr;
 use plir_core::NodeErr;
 use plir_data::{IdentifierErr, Memory};
+use plir_inliner::InlineErr;
 use std::alloc::{AllocError, AllocFailed};
 use std::io;
 
 /// What stops the program before the end of its input.
-#[derive(Clone, Copy, Debug, PartialEq, Eq)]
+#[derive(Clone, Copy)]
 pub enum Stop {
     /// The line is no command, or what it asks for can't be done.
     Refused,
@@ -51,6 +52,12 @@ impl From<IdentifierErr> for Stop {
 
 impl From<SymbolTableErr> for Stop {
     fn from(_error: SymbolTableErr) -> Stop {
+        Stop::Refused
+    }
+}
+
+impl From<InlineErr> for Stop {
+    fn from(_error: InlineErr) -> Stop {
         Stop::Refused
     }
 }

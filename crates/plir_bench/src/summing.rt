@@ -1,17 +1,17 @@
 //! Chains of sums, of constants and of zeros.
-ghost use Rattle.std.specs.Prelude.{◌≡◌, IfOk, OnOk};
-ghost use Rattle.plir_data.specs.Types.{AllLive, IsLive as IsTypeLive};
+ghost use Rattle.std.specs.Prelude.{OnOk};
 ghost use Rattle.plir_core.specs.ContextView.{IsLive};
 ghost use Rattle.plir_core.specs.declared.ptr.IRNode.{IRNode as AnyNode};
 
 use crate::building::{add_op, build_root, first_result};
-use crate::chains::add_user;
+use crate::chains::{add_user, add_value};
 use crate::kinds::{BenchKind, BenchSet};
-use crate::order::{Order, newest_results, put_op};
+use crate::order::{Order, put_op};
 use crate::stop::Stop;
+use crate::types::{WIDTH, integer_type, value_type};
 use plir_builtin::MaterializableAttr;
 use plir_core::{BasicBlock, Context, Operation, Ptr};
-use plir_data::{APInt, IntegerAttr, IntegerType, OpKind, Signedness, TypeHandle, TypedHandle};
+use plir_data::{APInt, IntegerAttr, OpKind};
 use std::alloc::Global;
 
 /// A module of a constant of one and so many sums, each of which adds it to the operation before, from the constant
@@ -24,7 +24,7 @@ pub fn build_sums(
 ) -> Result<Ptr<Operation>, Stop> {
     let (root, body) = build_root(alloc, ctx)?;
     let one = add_constant(alloc, ctx, body, 1, order)?;
-    add_sums(alloc, ctx, body, one, number, order)?;
+    add_sums(alloc, ctx, body, one, one, number, order)?;
     Ok(root)
 }
 
@@ -38,27 +38,29 @@ pub fn build_zeros(
 ) -> Result<Ptr<Operation>, Stop> {
     let (root, body) = build_root(alloc, ctx)?;
     let zero = add_constant(alloc, ctx, body, 0, order)?;
-    add_unknown(alloc, ctx, body, order)?;
-    add_sums(alloc, ctx, body, zero, number, order)?;
+    let unknown = add_value(alloc, ctx, body, OpKind::Func, None, order)?;
+    add_sums(alloc, ctx, body, unknown, zero, number, order)?;
     Ok(root)
 }
 
-// Puts so many sums into a block, each of which adds the result of an operation to the one before, and an operation
-// that uses the last.
+// Puts so many sums into a block, each of which adds the result of an operation to the one before, the first one to
+// that of another operation, and an operation that uses the last.
 fn add_sums(
     alloc: Global,
     ctx: &mut Context<BenchSet>,
     body: Ptr<BasicBlock>,
+    first: Ptr<Operation>,
     added: Ptr<Operation>,
     number: u64,
     order: Order,
 ) -> Result<(), Stop>
     requires { IsLive ctx.old (AnyNode.BasicBlock body) }
 {
+    let mut last = first;
     for _ in 0..number {
-        add_sum(alloc, ctx, body, added, order)?;
+        last = add_sum(alloc, ctx, body, last, added, order)?;
     }
-    add_user(alloc, ctx, body, OpKind::Func, Vec::new(alloc), order)?;
+    add_user(alloc, ctx, body, OpKind::Func, &[], Some(last), order)?;
     Ok(())
 }
 
@@ -73,78 +75,28 @@ fn add_constant(
     requires { IsLive ctx.old (AnyNode.BasicBlock body) }
     ensures { OnOk result (IsLive ctx.new (AnyNode.BasicBlock body)) }
 {
-    let ty = integer_type(ctx)?;
-    let bits = APInt::from_u64(number, 64).ok_or(Stop::Refused)?;
+    let ty = integer_type(ctx, WIDTH)?;
+    let bits = APInt::from_u64(number, WIDTH).ok_or(Stop::Refused)?;
     let value = IntegerAttr::new(ty, bits);
     let constant = MaterializableAttr::<BenchSet>::materialize(&value, alloc, ctx)?;
     put_op(ctx, body, constant, order);
     Ok(constant)
 }
 
-// Puts an operation that stays into a block, whose result is an integer.
-fn add_unknown(
-    alloc: Global,
-    ctx: &mut Context<BenchSet>,
-    body: Ptr<BasicBlock>,
-    order: Order,
-) -> Result<(), Stop>
-    requires { IsLive ctx.old (AnyNode.BasicBlock body) }
-    ensures { OnOk result (IsLive ctx.new (AnyNode.BasicBlock body)) }
-{
-    let types = integer_types(alloc, ctx)?;
-    add_op(
-        alloc,
-        ctx,
-        body,
-        OpKind::Func,
-        types,
-        Vec::new(alloc),
-        order,
-    )?;
-    Ok(())
-}
-
-// Puts an operation into a block that adds the first result of an operation to that of the one that was put there last.
+// Puts an operation into a block that adds the first result of an operation to that of another one.
 fn add_sum(
     alloc: Global,
     ctx: &mut Context<BenchSet>,
     body: Ptr<BasicBlock>,
-    added: Ptr<Operation>,
+    left: Ptr<Operation>,
+    right: Ptr<Operation>,
     order: Order,
-) -> Result<(), Stop>
+) -> Result<Ptr<Operation>, Stop>
     requires { IsLive ctx.old (AnyNode.BasicBlock body) }
     ensures { OnOk result (IsLive ctx.new (AnyNode.BasicBlock body)) }
 {
-    let types = integer_types(alloc, ctx)?;
-    let mut operands = newest_results(alloc, ctx, body, order)?;
-    operands.push(first_result(ctx, added)?)?;
-    add_op(
-        alloc,
-        ctx,
-        body,
-        OpKind::Own(BenchKind::Sum),
-        types,
-        operands,
-        order,
-    )?;
-    Ok(())
-}
-
-// The type of the integers of a chain.
-fn integer_type(ctx: &mut Context<BenchSet>) -> Result<TypedHandle<IntegerType>, Stop>
-    ensures live { IfOk result (IsTypeLive ctx.new.types) }
-    ensures nodes { ctx.new.nodes ≡ ctx.old.nodes }
-{
-    Ok(IntegerType::get(ctx, 64, Signedness::Signed)?)
-}
-
-// A list of one type, that of the integers of a chain.
-fn integer_types(alloc: Global, ctx: &mut Context<BenchSet>) -> Result<Vec<TypeHandle>, Stop>
-    ensures types { IfOk result (λ ts. AllLive ctx.new.types ts.items) }
-    ensures nodes { ctx.new.nodes ≡ ctx.old.nodes }
-{
-    let ty = integer_type(ctx)?;
-    let mut types = Vec::new(alloc);
-    types.push(ty.into())?;
-    Ok(types)
+    let ty = value_type(ctx)?;
+    let values = [first_result(ctx, left)?, first_result(ctx, right)?];
+    let sum = OpKind::Own(BenchKind::Sum);
+    add_op(alloc, ctx, body, sum, &[ty], &values, order)
 }

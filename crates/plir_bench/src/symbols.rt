@@ -1,14 +1,14 @@
 //! Tables of symbols, and edits through them.
 ghost use Rattle.std.specs.Prelude.{◌≡◌, false, IfOk, OnOk};
 ghost use Rattle.plir_builtin.specs.Agree.{Agrees};
-ghost use Rattle.plir_core.specs.ContextView.{IsLive};
-ghost use Rattle.plir_core.specs.declared.ptr.IRNode.{IRNode as AnyNode};
 
-use crate::building::{body_of, name_of};
+use crate::building::{body_of, live_op, name_of};
 use crate::kinds::BenchSet;
+use crate::order::first_op;
+use crate::passes::unused_op;
 use crate::stop::Stop;
 use plir_builtin::{SymbolEdit, SymbolTable, SymbolTableCollection};
-use plir_core::{Context, IRNode, Operation, Ptr};
+use plir_core::{Context, Operation, Ptr};
 use plir_data::Identifier;
 use std::alloc::Global;
 
@@ -18,12 +18,10 @@ pub fn make_tables(
     ctx: &Context<BenchSet>,
     root: Ptr<Operation>,
     rounds: u64,
-) -> Result<u64, Stop>
-    requires { IsLive ctx.now (AnyNode.Operation root) }
-{
+) -> Result<u64, Stop> {
     let mut made = 0u64;
     for _ in 0..rounds {
-        let _table = SymbolTable::new(alloc, ctx, root)?;
+        let _table = make_table(alloc, ctx, root)?;
         made = made.wrapping_add(1);
     }
     Ok(made)
@@ -37,10 +35,8 @@ pub fn look_up_texts(
     root: Ptr<Operation>,
     functions: u64,
     rounds: u64,
-) -> Result<u64, Stop>
-    requires { IsLive ctx.now (AnyNode.Operation root) }
-{
-    let table = SymbolTable::new(alloc, ctx, root)?;
+) -> Result<u64, Stop> {
+    let table = make_table(alloc, ctx, root)?;
     let names = list_names(alloc, functions)?;
     let mut found = 0u64;
     for _ in 0..rounds {
@@ -68,10 +64,8 @@ pub fn look_up_names(
     root: Ptr<Operation>,
     functions: u64,
     rounds: u64,
-) -> Result<u64, Stop>
-    requires { IsLive ctx.now (AnyNode.Operation root) }
-{
-    let table = SymbolTable::new(alloc, ctx, root)?;
+) -> Result<u64, Stop> {
+    let table = make_table(alloc, ctx, root)?;
     let names = list_names(alloc, functions)?;
     let mut found = 0u64;
     for _ in 0..rounds {
@@ -119,9 +113,7 @@ fn make_table(
     ensures of_root { IfOk result (λ t. t.op ≡ root) }
     ensures agrees { IfOk result (Agrees (λ k. false) (λ k. false) ctx.now) }
 {
-    if !root.is_live(ctx) {
-        return Err(Stop::Refused);
-    }
+    live_op(ctx, root)?;
     Ok(SymbolTable::new(alloc, ctx, root)?)
 }
 
@@ -152,12 +144,8 @@ fn erase_symbol(
     ensures of_root { OnOk result (table.new.op ≡ root) }
     ensures agrees { OnOk result (Agrees (λ k. false) (λ k. false) ctx.new table.new) }
 {
-    if !root.is_live(ctx) || !op.is_live(ctx) {
-        return Err(Stop::Refused);
-    }
-    if !IRNode::Operation(op).is_unused_outside(ctx) {
-        return Err(Stop::Refused);
-    }
+    live_op(ctx, root)?;
+    unused_op(ctx, op)?;
     table.erase(ctx, op)?;
     Ok(())
 }
@@ -191,7 +179,7 @@ fn list_body(
 ) -> Result<Vec<Ptr<Operation>>, Stop> {
     let body = body_of(ctx, root)?;
     let mut ops = Vec::new(alloc);
-    let mut at = body.get_head(ctx);
+    let mut at = first_op(ctx, body);
     for _ in 0..number {
         let Some(op) = at else {
             break;

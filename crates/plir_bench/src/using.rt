@@ -1,14 +1,10 @@
 //! Values that are used often.
-ghost use Rattle.std.specs.Prelude.{IfOk, OnOk};
-ghost use Rattle.plir_core.specs.ContextView.{IsLive};
-ghost use Rattle.plir_core.specs.declared.ptr.IRNode.{IRNode as AnyNode};
-
-use crate::building::{add_op, build_root, first_result};
-use crate::chains::unit_types;
+use crate::building::{build_root, first_result};
+use crate::chains::{add_user, add_value};
 use crate::kinds::BenchSet;
 use crate::order::Order;
 use crate::stop::Stop;
-use plir_core::{BasicBlock, Context, Operation, Ptr, Value};
+use plir_core::{Context, Operation, Ptr, Value};
 use plir_data::OpKind;
 use std::alloc::Global;
 
@@ -27,63 +23,16 @@ pub fn build_users(
     order: Order,
 ) -> Result<(Ptr<Operation>, Pair), Stop> {
     let (root, body) = build_root(alloc, ctx)?;
-    let first = add_value(alloc, ctx, body, order)?;
-    let second = add_value(alloc, ctx, body, order)?;
+    let first = add_value(alloc, ctx, body, OpKind::Constant, None, order)?;
+    let second = add_value(alloc, ctx, body, OpKind::Constant, None, order)?;
     for _ in 0..number {
-        add_use(alloc, ctx, body, first, order)?;
+        add_user(alloc, ctx, body, OpKind::Func, &[], Some(first), order)?;
     }
     let pair = Pair {
         first: first_result(ctx, first)?,
         second: first_result(ctx, second)?,
     };
     Ok((root, pair))
-}
-
-// Puts a constant into a block.
-fn add_value(
-    alloc: Global,
-    ctx: &mut Context<BenchSet>,
-    body: Ptr<BasicBlock>,
-    order: Order,
-) -> Result<Ptr<Operation>, Stop>
-    requires { IsLive ctx.old (AnyNode.BasicBlock body) }
-    ensures { OnOk result (IsLive ctx.new (AnyNode.BasicBlock body)) }
-{
-    let types = unit_types(alloc, ctx)?;
-    add_op(
-        alloc,
-        ctx,
-        body,
-        OpKind::Constant,
-        types,
-        Vec::new(alloc),
-        order,
-    )
-}
-
-// Puts an operation into a block that uses the first result of another one.
-fn add_use(
-    alloc: Global,
-    ctx: &mut Context<BenchSet>,
-    body: Ptr<BasicBlock>,
-    used: Ptr<Operation>,
-    order: Order,
-) -> Result<(), Stop>
-    requires { IsLive ctx.old (AnyNode.BasicBlock body) }
-    ensures { OnOk result (IsLive ctx.new (AnyNode.BasicBlock body)) }
-{
-    let mut operands = Vec::new(alloc);
-    operands.push(first_result(ctx, used)?)?;
-    add_op(
-        alloc,
-        ctx,
-        body,
-        OpKind::Func,
-        Vec::new(alloc),
-        operands,
-        order,
-    )?;
-    Ok(())
 }
 
 /// Puts the second value of a pair in place of the first one everywhere, then the first one in place of the second one,

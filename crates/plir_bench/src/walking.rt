@@ -3,6 +3,7 @@ ghost use Rattle.std.specs.Prelude.{◌≡◌};
 ghost use Rattle.plir_core.specs.ContextView.{IsLive};
 ghost use Rattle.plir_core.specs.declared.ptr.IRNode.{IRNode as AnyNode};
 
+use crate::building::live_op;
 use crate::kinds::BenchSet;
 use crate::stop::Stop;
 use plir_core::{Context, IRNode, Operation, Ptr};
@@ -71,9 +72,7 @@ fn walk_once_mutably(
     root: Ptr<Operation>,
     count: &mut u64,
 ) -> Result<(), Stop> {
-    if !root.is_live(ctx) {
-        return Err(Stop::Refused);
-    }
+    live_op(ctx, root)?;
     lawful_changes::<BenchSet>();
     let visit = |ctx: &mut Context<BenchSet>, count: &mut u64, _node: IRNode|
         ensures { ctx.new ≡ ctx.old }

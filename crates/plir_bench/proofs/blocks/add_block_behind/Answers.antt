@@ -6,4 +6,4 @@ use Rattle.plir_bench.proofs.blocks.add_block_behind.Goals as goal
 pub insert_after-requires-clause-not_above : goal.insert_after-requires-clause-not_above
 insert_after-requires-clause-not_above c =
     let live : IsLive c.args.ctx.now (BasicBlock c.args.mark) = search rules in
-    c.in_ok-block.ensures.made.apart (BasicBlock c.args.mark) live
+    c.in_ok-block.ensures.apart (BasicBlock c.args.mark) live
