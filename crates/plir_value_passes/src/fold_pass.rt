@@ -7,12 +7,14 @@ ghost use Rattle.plir_value_passes.specs.Folded.{AreFolded, IsFoldStop};
 
 use plir_core::{Context, NodeErr, Operation, Ptr};
 use plir_driver::{Offered, Pass, PassEnd, PassErr, PassOption};
-use plir_folding::{FoldSet, IdentitySet, fold_constants, fold_values};
+use plir_folding::laws::merging_keeps_passed;
+use plir_folding::{FoldSet, IdentitySet, fold_constants, fold_values, merge_constants};
 use plir_walk::laws::lawful_changes;
 use std::alloc::Global;
 
 /// `fold`: puts constants in place of operands that are worth one, as [`fold_constants`] does, and then values in place
-/// of results that stand for them, as [`fold_values`] does, each until none is left.
+/// of results that stand for them, as [`fold_values`] does, each until none is left; at last it has each block use one
+/// constant of each integer, as [`merge_constants`] does.
 #[derive(Clone, Copy, Debug, PartialEq, Eq)]
 pub struct FoldPass;
 
@@ -51,7 +53,7 @@ fn end_of(any: bool) -> PassEnd
     }
 }
 
-// Folds constants, and then values.
+// Folds constants, and then values, and merges constants.
 fn fold_all<D: FoldSet + IdentitySet>(
     alloc: Global,
     ctx: &mut Context<D>,
@@ -72,7 +74,9 @@ fn fold_all<D: FoldSet + IdentitySet>(
     };
     ctx.stands();
     let values = fold_values(alloc, ctx, root)?;
-    Ok(end_of(constants || values))
+    merging_keeps_passed::<D>();
+    let merged = merge_constants(alloc, ctx, root)?;
+    Ok(end_of(constants || values || merged))
 }
 
 impl<D: FoldSet + IdentitySet> Pass<D> for FoldPass {
