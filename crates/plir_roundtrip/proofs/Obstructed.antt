@@ -14,7 +14,7 @@ use Rattle.plir_roundtrip.specs.IrReadableUses.{IsIrReadable}
 use Rattle.plir_roundtrip.specs.Obstacles.{IsFarUse, IsIrNodeReadable, IsNodeCounted, IsObstacle}
 use Rattle.plir_roundtrip.specs.UsesWithin.{AreCounted, UsesWithin}
 use Rattle.plir_roundtrip.specs.declared.obstacle.Obstacle.{Obstacle}
-use Rattle.plir_roundtrip.specs.declared.obstacle.Obstacle.TheVariants.{Node, Levels, Operand, Successor}
+use Rattle.plir_roundtrip.specs.declared.obstacle.Obstacle.TheVariants.{Kind, Types, Content, Levels, Operand, Successor}
 
 module _ {D K A T E : Type 0} (o : op_set.Ghosts D K A T E) (find : List ℕ → Option K) (isolated : K → Bool)
     (s : ContextView K A T) (p : Ptr OperationKind) where
@@ -36,7 +36,9 @@ module _ {D K A T E : Type 0} (o : op_set.Ghosts D K A T E) (find : List ℕ →
       → MatchOption found (UsesWithin isolated s (Operation p)) (IsFarUse isolated s (Operation p))
       → MatchOption found (IsIrReadable o find isolated s p) (IsObstacle o find s isolated p)
   told_by_uses None text few uses = record { text = text; uses = uses; counted = few }
-  told_by_uses (Some (Node n)) text few far = absurd far
+  told_by_uses (Some (Kind n)) text few far = absurd far
+  told_by_uses (Some (Types n)) text few far = absurd far
+  told_by_uses (Some (Content n)) text few far = absurd far
   told_by_uses (Some Levels) text few far = absurd far
   told_by_uses (Some (Operand q i)) text few far = (text, far)
   told_by_uses (Some (Successor q i)) text few far = (text, far)

@@ -1,6 +1,8 @@
 -- What stands against reading an operation of any kind back from its text, and what its test tells on the way.
 use Rattle.std.specs.Prelude.{◌≡◌, ℕ, ◌≤◌, ◌<◌, ◌^◌, List, Bool, true, if◌then◌else◌, Option, Some, None, length, slice_get}
 use Rattle.std.specs.Prelude.{All}
+use Rattle.plir_data.specs.declared.op_set.OpKind.{OpKind}
+use Rattle.plir_data.specs.declared.op_set.OpKind.TheVariants.{Module, Func, Constant, ForwardRef, Own}
 use Rattle.plir_data.specs.declared.op_set.OpSet as op_set
 use Rattle.plir_core.specs.declared.ptr.Ptr.{Ptr}
 use Rattle.plir_core.specs.declared.ptr.Operation.{Operation as OperationKind}
@@ -11,13 +13,14 @@ use Rattle.plir_core.specs.declared.value.DefiningEntity.TheVariants.{Op, Block}
 use Rattle.plir_core.specs.declared.value.Value.{Value}
 use Rattle.plir_core.specs.ContextView.{ContextView, children, kind_of, operands_of, successors_of, types_from}
 use Rattle.plir_walk.specs.Tree.{IsProperlyUnder, IsUnder}
+use Rattle.plir_read_ir.specs.IrGrammar.{own_kind}
 use Rattle.plir_read_ir.specs.IrTerms.{op_levels}
-use Rattle.plir_roundtrip.specs.Readable.{IsBlockReadable}
-use Rattle.plir_roundtrip.specs.IrReadable.{AreIrReadable, HasReadableText, IsIrOpReadable}
+use Rattle.plir_roundtrip.specs.Readable.{AreValuesReadable, IsBlockReadable}
+use Rattle.plir_roundtrip.specs.IrReadable.{AreIrReadable, HasReadableText, IsId, IsIrOpReadable}
 use Rattle.plir_roundtrip.specs.IrWritten.{ir_term_of}
 use Rattle.plir_roundtrip.specs.UsesWithin.{IsBeside, IsWithinReach, StandsAround, is_kind_isolated}
 use Rattle.plir_roundtrip.specs.declared.obstacle.Obstacle.{Obstacle}
-use Rattle.plir_roundtrip.specs.declared.obstacle.Obstacle.TheVariants.{Node, Levels, Operand, Successor}
+use Rattle.plir_roundtrip.specs.declared.obstacle.Obstacle.TheVariants.{Kind, Types, Content, Levels, Operand, Successor}
 use Rattle.plir_roundtrip.specs.declared.reach.Body.{Body}
 use Rattle.plir_roundtrip.specs.declared.reach.Body.TheVariants.{Whole, Of, Outside}
 
@@ -74,7 +77,9 @@ IsUsing isolated s root (BasicBlock b) = Unit {0}
 -- An operand of an operation of the tree is the first that this cannot name; or it can name all operands, and a
 -- successor is the first that it cannot name.
 abbrev pub IsFarUse : {K A T : Type 0} → (isolated : K → Bool) → ContextView K A T → (root : IRNode) → Obstacle → Type 0
-IsFarUse isolated s root (Node n) = ⊥
+IsFarUse isolated s root (Kind n) = ⊥
+IsFarUse isolated s root (Types n) = ⊥
+IsFarUse isolated s root (Content n) = ⊥
 IsFarUse isolated s root Levels = ⊥
 IsFarUse isolated s root (Operand p i) = IsUnder (children s) root (Operation p) × IsFarOperand isolated s root p i
 IsFarUse isolated s root (Successor p i) = IsUnder (children s) root (Operation p) ×
@@ -104,11 +109,36 @@ module _ {D K A T E : Type 0} (o : op_set.Ghosts D K A T E) (find : List ℕ →
   IsNodeCounted (Region r) = Unit {0}
   IsNodeCounted (BasicBlock b) = length (types_from s (Block b)) < 2 ^ 64
 
-  -- What stands against reading an operation back from its text: a node at or under it cannot be read; or all can be,
-  -- and there are too many levels; or its text stands for it, and an operand or a successor means nothing there.
+  -- texts name the kind of an operation
+  abbrev pub IsKindNamed : Option (OpKind K) → Type 0
+  IsKindNamed (Some Module) = Unit {0}
+  IsKindNamed (Some Func) = Unit {0}
+  IsKindNamed (Some Constant) = Unit {0}
+  IsKindNamed (Some (Own k)) = IsId (o.kind_id k) × (own_kind find (o.kind_id k) ≡ Some k)
+  IsKindNamed (Some ForwardRef) = ⊥
+  IsKindNamed None = ⊥
+
+  -- the same of the operation at a node; nothing is asked of a region and of a block
+  abbrev pub IsNodeNamed : IRNode → Type 0
+  IsNodeNamed (Operation p) = IsKindNamed (kind_of s p)
+  IsNodeNamed (Region r) = Unit {0}
+  IsNodeNamed (BasicBlock b) = Unit {0}
+
+  -- the results or arguments of a node have builtin types, and names that are identifiers, if any
+  abbrev pub AreTypesReadable : IRNode → Type 0
+  AreTypesReadable (Operation p) = AreValuesReadable s (Op p)
+  AreTypesReadable (Region r) = Unit {0}
+  AreTypesReadable (BasicBlock b) = AreValuesReadable s (Block b)
+
+  -- What stands against reading an operation back from its text: a node at or under it cannot be read, be it for its
+  -- kind, else for the types of its results or arguments, else for what it holds; or all can be, and there are too many
+  -- levels; or its text stands for it, and an operand or a successor means nothing there.
   module _ (isolated : K → Bool) (p : Ptr OperationKind) where
     abbrev pub IsObstacle : Obstacle → Type 0
-    IsObstacle (Node n) = IsUnder (children s) (Operation p) n × (IsIrNodeReadable n → ⊥)
+    IsObstacle (Kind n) = IsUnder (children s) (Operation p) n × (IsNodeNamed n → ⊥)
+    IsObstacle (Types n) = IsUnder (children s) (Operation p) n × IsNodeNamed n × (AreTypesReadable n → ⊥)
+    IsObstacle (Content n) = IsUnder (children s) (Operation p) n × IsNodeNamed n × AreTypesReadable n ×
+        (IsIrNodeReadable n → ⊥)
     IsObstacle Levels = AreIrReadable o find s (Operation p) × (op_levels (ir_term_of o s p) ≤ 200 → ⊥)
     IsObstacle (Operand q i) = HasReadableText o find s p × IsFarUse isolated s (Operation p) (Operand q i)
     IsObstacle (Successor q i) = HasReadableText o find s p × IsFarUse isolated s (Operation p) (Successor q i)

@@ -12,7 +12,7 @@ ghost use Rattle.plir_roundtrip.specs.UsesWithin.{AreCounted};
 
 use crate::obstacle::Obstacle;
 use crate::op_levels::is_op_within;
-use crate::own::{count, is_ir_node_readable};
+use crate::own::{count, is_ir_node_readable, obstacle_at};
 use crate::uses::find_far_use;
 use plir_core::{Context, IRNode, Operation, Ptr};
 use plir_read_own::ReadSet;
@@ -77,7 +77,7 @@ pub fn ir_obstacle<D: ReadSet>(ctx: &Context<D>, op: Ptr<Operation>) -> Option<O
 {
     ctx.stands();
     if let Some(node) = find_unreadable(ctx, op) {
-        return Some(Obstacle::Node(node));
+        return Some(obstacle_at(ctx, op, node));
     }
     if !is_op_within(ctx, op, 200) {
         return Some(Obstacle::Levels);

@@ -6,10 +6,17 @@ use thiserror::Error;
 /// Why an operation is not read back from its text as the same tree.
 #[derive(Clone, Copy, Debug, PartialEq, Eq, Error)]
 pub enum Obstacle {
-    /// An operation or a block that cannot be read: it is of a kind that no text names, as a forward reference is, or
-    /// holds what its text does not tell, or what cannot be written.
-    #[error("{0} cannot be read back from its text")]
-    Node(IRNode),
+    /// An operation of a kind that no text names: a forward reference, or an operation of one's own kind whose id is
+    /// not two names with a point between them, names no kind of the set, or names a builtin operation.
+    #[error("no text names the kind of {0}")]
+    Kind(IRNode),
+    /// An operation with a result, or a block with an argument, whose type is no builtin one.
+    #[error("{0} has a result or an argument of a type that cannot be read")]
+    Types(IRNode),
+    /// An operation or a block that holds what its text does not tell, or what cannot be written, as an attribute of an
+    /// own type.
+    #[error("{0} holds what its text does not tell")]
+    Content(IRNode),
     /// The text has more than 200 levels.
     #[error("the text has more than 200 levels")]
     Levels,

@@ -1,15 +1,18 @@
 //! Whether an operation of one's own kind, or one of any kind, can be read, whatever stands below it.
 ghost use Rattle.std.specs.Prelude.{◌≡◌, ◌↔◌, ◌<◌, ◌^◌, All, IsErr, IsTrue, Some};
 ghost use Rattle.plir_core.specs.declared.ptr.IRNode.{IRNode as AnyNode};
-ghost use Rattle.plir_core.specs.ContextView.{IsLive, label_of, operands_of, successors_of};
+ghost use Rattle.plir_core.specs.ContextView.{IsLive, children, kind_of, label_of, operands_of, successors_of};
+ghost use Rattle.plir_walk.specs.Tree.{IsUnder};
 ghost use Rattle.plir_attr_text.specs.Writable.{IsNameOrMark};
 ghost use Rattle.plir_read.specs.OpReading.{op_kind};
 ghost use Rattle.plir_read_ir.specs.IrGrammar.{own_kind};
 ghost use Rattle.plir_roundtrip.specs.IrReadable.{IsId, IsIrOpReadable, IsOwnReadable, IsUseReadable};
-ghost use Rattle.plir_roundtrip.specs.Obstacles.{AreIdsApart, IsIrNodeReadable, IsNodeCounted};
+ghost use Rattle.plir_roundtrip.specs.Obstacles.{AreIdsApart, AreTypesReadable, IsIrNodeReadable, IsKindNamed};
+ghost use Rattle.plir_roundtrip.specs.Obstacles.{IsNodeCounted, IsNodeNamed, IsObstacle};
 
 use crate::entries::are_entries_readable;
 use crate::nodes::{is_block_readable, is_op_readable};
+use crate::obstacle::Obstacle;
 use crate::values::{are_values_readable, is_name_or_none, is_value_readable, num_values};
 use plir_core::{Context, DefiningEntity, IRNode, Operation, Ptr};
 use plir_data::{OpKind, is_identifier};
@@ -129,4 +132,65 @@ pub(crate) fn count<D: ReadSet>(ctx: &Context<D>, node: IRNode) -> usize
         IRNode::Region(_) => 0,
         IRNode::BasicBlock(block) => num_values(ctx, DefiningEntity::Block(block)),
     }
+}
+
+// Whether texts name the kind of an operation.
+fn is_kind_named<D: ReadSet>(ctx: &Context<D>, op: Ptr<Operation>) -> bool
+    requires live { IsLive ctx.now (AnyNode.Operation op) }
+    requires ids { AreIdsApart D.kind_id }
+    ensures { IsTrue result ↔ IsKindNamed D.OpSet D.find_kind ctx.now (kind_of ctx.now op) }
+{
+    match op.kind(ctx) {
+        OpKind::Own(kind) => is_kind_found::<D>(kind),
+        OpKind::Module => true,
+        OpKind::Func => true,
+        OpKind::Constant => true,
+        OpKind::ForwardRef => false,
+    }
+}
+
+// The same of the operation at a node. Nothing is asked of a region and of a block.
+fn is_node_named<D: ReadSet>(ctx: &Context<D>, node: IRNode) -> bool
+    requires live { IsLive ctx.now node }
+    requires ids { AreIdsApart D.kind_id }
+    ensures { IsTrue result ↔ IsNodeNamed D.OpSet D.find_kind ctx.now node }
+{
+    match node {
+        IRNode::Operation(op) => is_kind_named(ctx, op),
+        IRNode::Region(_) => true,
+        IRNode::BasicBlock(_) => true,
+    }
+}
+
+// Whether the results or arguments of a node can be read.
+fn are_types_readable<D: ReadSet>(ctx: &Context<D>, node: IRNode) -> bool
+    requires { IsLive ctx.now node }
+    ensures { IsTrue result ↔ AreTypesReadable D.OpSet D.find_kind ctx.now node }
+{
+    match node {
+        IRNode::Operation(op) => are_values_readable(ctx, DefiningEntity::Op(op)),
+        IRNode::Region(_) => true,
+        IRNode::BasicBlock(block) => are_values_readable(ctx, DefiningEntity::Block(block)),
+    }
+}
+
+/// Why a node of the tree under a root cannot be read.
+pub(crate) fn obstacle_at<D: ReadSet>(
+    ctx: &Context<D>,
+    root: Ptr<Operation>,
+    node: IRNode,
+) -> Obstacle
+    requires live { IsLive ctx.now node }
+    requires ids { AreIdsApart D.kind_id }
+    requires under { IsUnder (children ctx.now) (AnyNode.Operation root) node }
+    requires unread { IsIrNodeReadable D.OpSet D.find_kind ctx.now node → ⊥ }
+    ensures { IsObstacle D.OpSet D.find_kind ctx.now D.is_isolated root result }
+{
+    if !is_node_named(ctx, node) {
+        return Obstacle::Kind(node);
+    }
+    if !are_types_readable(ctx, node) {
+        return Obstacle::Types(node);
+    }
+    Obstacle::Content(node)
 }

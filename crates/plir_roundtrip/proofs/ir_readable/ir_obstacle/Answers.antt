@@ -1,7 +1,15 @@
 use Rattle.std.proofs.Common.{◌≡◌, true}
+use Rattle.plir_core.specs.Forest.{look}
+use Rattle.plir_core.specs.declared.ptr.IRNode.TheVariants.{Operation}
+use Rattle.plir_walk.specs.TreeLaws.{under-live}
 use Rattle.plir_roundtrip.specs.IrReadable.{HasReadableText}
 use Rattle.plir_roundtrip.proofs.Obstructed.{told_by_uses}
 use Rattle.plir_roundtrip.proofs.ir_readable.ir_obstacle.Goals as goal
+
+pub obstacle_at-requires-clause-live : goal.obstacle_at-requires-clause-live
+obstacle_at-requires-clause-live g c =
+    under-live (look c.args.ctx.now) c.stands.ensures.standing.forest (Operation c.args.op) c.in-Some.node
+    c.requires.live c.in-Some.ensures.0
 
 pub returns-then-not-is_op_within-clause-value : goal.returns-then-not-is_op_within-clause-value
 returns-then-not-is_op_within-clause-value g c = (
