@@ -6,6 +6,7 @@ use Rattle.plir_core.specs.declared.ptr.Ptr.{Ptr}
 use Rattle.plir_core.specs.declared.ptr.Operation.{Operation as OperationKind}
 use Rattle.plir_core.specs.declared.ptr.IRNode.{IRNode}
 use Rattle.plir_core.specs.declared.ptr.IRNode.TheVariants.{Operation, Region, BasicBlock}
+use Rattle.plir_store.specs.MemberLaws.{Has-append_cases}
 use Rattle.plir_store.specs.Members.{Has}
 use Rattle.plir_core.specs.ContextView.{ContextView, children}
 use Rattle.plir_core.specs.Forest.{look}
@@ -13,7 +14,8 @@ use Rattle.plir_walk.specs.declared.config.WalkConfig.{WalkConfig}
 use Rattle.plir_walk.specs.declared.interruptible.WalkContinue.{WalkContinue}
 use Rattle.plir_walk.specs.declared.interruptible.WalkContinue.TheVariants.{Advance, Skip}
 use Rattle.plir_walk.specs.Calls.{Call, Relation, Chain, nodes_of, NoBreak}
-use Rattle.plir_walk.specs.Tree.{IsUnder}
+use Rattle.plir_walk.specs.Tree.{IsUnder, NodeBefore}
+use Rattle.plir_walk.specs.Walk.{IsDue}
 use Rattle.plir_walk.specs.Walked.{IsCallUnder, WalkedOver}
 use Rattle.plir_roundtrip.specs.ReadableParts.{AllReadable, IsLookAnswer, IsNodeReadable}
 
@@ -85,34 +87,62 @@ module _ {K A T S B : Type 0} (w : WalkConfig) (post : Relation (ContextView K A
         | inr k ↦ each ys y.after y.left c' s' (t.0 ∙ b) h.3 x k
       ]
 
+  -- no answer shuts a node out
+  due : (calls : List (Call (ContextView K A T) S B)) → Chain (IsCallUnder look (Operation op) post) c0 s0 calls c0 s1
+      → (n : IRNode) → IsUnder (children c0) (Operation op) n → IsDue w (children c0) (Operation op) calls n
+  due calls chain n under = (
+    under,
+    λ out. let x = out.skipped.0 in
+        never_skips (Good c0 x.node) (Found c0 x.node) x.answer (each calls c0 s0 c0 s1 refl chain x out.skipped.1)
+        out.skipped.3,
+  )
+
   -- a walk that went to its end has found nothing
   at_end : (k : WalkContinue) → WalkedOver look w post c0 s0 (Operation op) (Continue k) s1 → (n : IRNode)
       → IsUnder (children c0) (Operation op) n → Good c0 n
   at_end k h n under =
-      let called : Has (nodes_of h.calls) n =
-      (h.walk.answers.2 n).1 (
-        under,
-        λ out. let x = out.skipped.0 in
-            never_skips (Good c0 x.node) (Found c0 x.node) x.answer
-            (each h.calls c0 s0 c0 s1 refl h.chain x out.skipped.1) out.skipped.3,
-      ) in
+      let called : Has (nodes_of h.calls) n = (h.walk.answers.2 n).1 (due h.calls h.chain n under) in
       let x = call_of h.calls n called in
       let answer : Answered n x.0.answer =
       subst (λ z. Answered z x.0.answer) x.2 (each h.calls c0 s0 c0 s1 refl h.chain x.0 x.1) in
       goes_on (Good c0 n) (Found c0 n) x.0.answer answer (λ b e. none_breaks h.calls h.walk.answers.1 x.0 x.1 b e)
 
-  -- one that was broken off has found something
-  at_break : (b : B) → WalkedOver look w post c0 s0 (Operation op) (Break b) s1
-      → (n : IRNode) × IsUnder (children c0) (Operation op) n × Found c0 n b
+  -- What one finds that is broken off: it is at a node, and at no other one that does not come behind that.
+  pub record IsFound (b : B) : Type 0 where
+    pub node : IRNode
+    pub under : IsUnder (children c0) (Operation op) node
+    pub found : Found c0 node b
+    pub others : (m : IRNode) → IsUnder (children c0) (Operation op) m
+        → (NodeBefore w (children c0) (Operation op) node m → ⊥) → (m ≡ node → ⊥) → Good c0 m
+
+  at_break : (b : B) → WalkedOver look w post c0 s0 (Operation op) (Break b) s1 → IsFound b
   at_break b h =
       let last = h.walk.answers.0 in
       let x = last.1 in
       let has : Has h.calls x = subst (λ z. Has z x) (sym last.2) (has_last last.0 x) in
-      let under = h.walk.in_order.under_root x.node (node_called h.calls x has) in (
-        x.node,
-        under,
-        breaks_off (Good c0 x.node) (Found c0 x.node) x.answer b (each h.calls c0 s0 c0 s1 refl h.chain x has) last.3,
-      )
+      record {
+        node = x.node;
+        under = h.walk.in_order.under_root x.node (node_called h.calls x has);
+        found =
+            breaks_off (Good c0 x.node) (Found c0 x.node) x.answer b (each h.calls c0 s0 c0 s1 refl h.chain x has) last.3;
+        others =
+            λ m u before other.
+            let called : Has (nodes_of h.calls) m =
+            (h.walk.answers.1 last.0 x last.2 m).1 (due h.calls h.chain m u, before) in
+            let y = call_of h.calls m called in
+            let answer : Answered m y.0.answer =
+            subst (λ z. Answered z y.0.answer) y.2 (each h.calls c0 s0 c0 s1 refl h.chain y.0 y.1) in
+            goes_on (Good c0 m) (Found c0 m) y.0.answer answer (λ d e.
+            elim (Has-append_cases last.0 (x ∷ []) y.0 (subst (λ z. Has z y.0) last.2 y.1)) [
+              | inl f ↦ none_breaks last.0 last.4 y.0 f d e
+              | inr one ↦ last_one x y.0 m other y.2 one
+            ]);
+      }
+    where
+      last_one : (x y : Call (ContextView K A T) S B) (m : IRNode) → (m ≡ x.node → ⊥) → y.node ≡ m
+          → Has (x ∷ []) y → ⊥
+      last_one x y m other is (inl e) = other (sym is ∙ ap (λ z. z.node) (sym e))
+      last_one x y m other is (inr none) = none
 
   pub went_on : (a : ControlFlow B WalkContinue) (k : WalkContinue) → a ≡ Continue k
       → WalkedOver look w post c0 s0 (Operation op) a s1 → (n : IRNode) → IsUnder (children c0) (Operation op) n
@@ -120,8 +150,7 @@ module _ {K A T S B : Type 0} (w : WalkConfig) (post : Relation (ContextView K A
   went_on a k e h = at_end k (subst (λ z. WalkedOver look w post c0 s0 (Operation op) z s1) e h)
 
   pub broke_off : (a : ControlFlow B WalkContinue) (b : B) → a ≡ Break b
-      → WalkedOver look w post c0 s0 (Operation op) a s1
-      → (n : IRNode) × IsUnder (children c0) (Operation op) n × Found c0 n b
+      → WalkedOver look w post c0 s0 (Operation op) a s1 → IsFound b
   broke_off a b e h = at_break b (subst (λ z. WalkedOver look w post c0 s0 (Operation op) z s1) e h)
 
 -- each node under one all of which can be read

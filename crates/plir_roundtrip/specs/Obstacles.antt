@@ -12,7 +12,8 @@ use Rattle.plir_core.specs.declared.ptr.IRNode.TheVariants.{Operation, Region, B
 use Rattle.plir_core.specs.declared.value.DefiningEntity.TheVariants.{Op, Block}
 use Rattle.plir_core.specs.declared.value.Value.{Value}
 use Rattle.plir_core.specs.ContextView.{ContextView, children, kind_of, operands_of, successors_of, types_from}
-use Rattle.plir_walk.specs.Tree.{IsProperlyUnder, IsUnder}
+use Rattle.plir_walk.specs.Tree.{IsProperlyUnder, IsUnder, NodeBefore}
+use Rattle.plir_walk.specs.declared.config.TheConstants.{WALKCONFIG_PREORDER_FORWARD as pre_forward}
 use Rattle.plir_read_ir.specs.IrGrammar.{own_kind}
 use Rattle.plir_read_ir.specs.IrTerms.{op_levels}
 use Rattle.plir_roundtrip.specs.Readable.{AreValuesReadable, IsBlockReadable}
@@ -74,16 +75,29 @@ IsUsing isolated s root (Operation p) = All (IsWithinReach isolated s root p) (o
 IsUsing isolated s root (Region r) = Unit {0}
 IsUsing isolated s root (BasicBlock b) = Unit {0}
 
--- An operand of an operation of the tree is the first that this cannot name; or it can name all operands, and a
--- successor is the first that it cannot name.
-abbrev pub IsFarUse : {K A T : Type 0} → (isolated : K → Bool) → ContextView K A T → (root : IRNode) → Obstacle → Type 0
-IsFarUse isolated s root (Kind n) = ⊥
-IsFarUse isolated s root (Types n) = ⊥
-IsFarUse isolated s root (Content n) = ⊥
-IsFarUse isolated s root Levels = ⊥
-IsFarUse isolated s root (Operand p i) = IsUnder (children s) root (Operation p) × IsFarOperand isolated s root p i
-IsFarUse isolated s root (Successor p i) = IsUnder (children s) root (Operation p) ×
+-- Of the nodes of the tree, those that do not come behind n in its order have this, n aside.
+abbrev pub HoldsBefore : {K A T : Type 0} → ContextView K A T → (root n : IRNode) → (IRNode → Type 0) → Type 0
+HoldsBefore s root n P = (m : IRNode) → IsUnder (children s) root m →
+    (NodeBefore pre_forward (children s) root n m → ⊥) → (m ≡ n → ⊥) → P m
+
+-- An operand of the operation at a node is the first that this cannot name; or it can name all operands, and a successor
+-- is the first that it cannot name.
+abbrev pub IsFarAt : {K A T : Type 0} → (isolated : K → Bool) → ContextView K A T → (root n : IRNode) → Obstacle → Type 0
+IsFarAt isolated s root n (Kind m) = ⊥
+IsFarAt isolated s root n (Types m) = ⊥
+IsFarAt isolated s root n (Content m) = ⊥
+IsFarAt isolated s root n Levels = ⊥
+IsFarAt isolated s root n (Operand p i) = (n ≡ Operation p) × IsFarOperand isolated s root p i
+IsFarAt isolated s root n (Successor p i) = (n ≡ Operation p) ×
     All (IsWithinReach isolated s root p) (operands_of s p) × IsFarSuccessor s root p i
+
+-- so it is at the first node of the tree where it is
+pub record IsFarUse {K A T : Type 0} (isolated : K → Bool) (s : ContextView K A T) (root : IRNode) (o : Obstacle) :
+    Type 0 where
+  pub node : IRNode
+  pub within : IsUnder (children s) root node
+  pub far : IsFarAt isolated s root node o
+  pub others : HoldsBefore s root node (IsUsing isolated s root)
 
 -- two answers of climbs name one body of the tree
 abbrev pub IsSameBody : Body → Body → Type 0
@@ -130,15 +144,31 @@ module _ {D K A T E : Type 0} (o : op_set.Ghosts D K A T E) (find : List ℕ →
   AreTypesReadable (Region r) = Unit {0}
   AreTypesReadable (BasicBlock b) = AreValuesReadable s (Block b)
 
-  -- What stands against reading an operation back from its text: a node at or under it cannot be read, be it for its
-  -- kind, else for the types of its results or arguments, else for what it holds; or all can be, and there are too many
-  -- levels; or its text stands for it, and an operand or a successor means nothing there.
-  module _ (isolated : K → Bool) (p : Ptr OperationKind) where
-    abbrev pub IsObstacle : Obstacle → Type 0
-    IsObstacle (Kind n) = IsUnder (children s) (Operation p) n × (IsNodeNamed n → ⊥)
-    IsObstacle (Types n) = IsUnder (children s) (Operation p) n × IsNodeNamed n × (AreTypesReadable n → ⊥)
-    IsObstacle (Content n) = IsUnder (children s) (Operation p) n × IsNodeNamed n × AreTypesReadable n ×
-        (IsIrNodeReadable n → ⊥)
-    IsObstacle Levels = AreIrReadable o find s (Operation p) × (op_levels (ir_term_of o s p) ≤ 200 → ⊥)
-    IsObstacle (Operand q i) = HasReadableText o find s p × IsFarUse isolated s (Operation p) (Operand q i)
-    IsObstacle (Successor q i) = HasReadableText o find s p × IsFarUse isolated s (Operation p) (Successor q i)
+  -- Why a node cannot be read: no text names its kind; else a result or an argument cannot be read; else what it holds
+  -- cannot.
+  abbrev pub IsUnreadAs : IRNode → Obstacle → Type 0
+  IsUnreadAs n (Kind m) = (m ≡ n) × (IsNodeNamed n → ⊥)
+  IsUnreadAs n (Types m) = (m ≡ n) × IsNodeNamed n × (AreTypesReadable n → ⊥)
+  IsUnreadAs n (Content m) = (m ≡ n) × IsNodeNamed n × AreTypesReadable n × (IsIrNodeReadable n → ⊥)
+  IsUnreadAs n Levels = ⊥
+  IsUnreadAs n (Operand p i) = ⊥
+  IsUnreadAs n (Successor p i) = ⊥
+
+  module _ (p : Ptr OperationKind) where
+    -- a node is the first at or under an operation that cannot be read
+    pub record IsFirstUnread (n : IRNode) : Type 0 where
+      pub within : IsUnder (children s) (Operation p) n
+      pub unread : IsIrNodeReadable n → ⊥
+      pub others : HoldsBefore s (Operation p) n IsIrNodeReadable
+
+    -- What stands against reading an operation back from its text: the first node at or under it that cannot be read,
+    -- and why; or all can be, and there are too many levels; or its text stands for it, and the first use that means
+    -- nothing there.
+    module _ (isolated : K → Bool) where
+      abbrev pub IsObstacle : Obstacle → Type 0
+      IsObstacle (Kind n) = IsFirstUnread n × IsUnreadAs n (Kind n)
+      IsObstacle (Types n) = IsFirstUnread n × IsUnreadAs n (Types n)
+      IsObstacle (Content n) = IsFirstUnread n × IsUnreadAs n (Content n)
+      IsObstacle Levels = AreIrReadable o find s (Operation p) × (op_levels (ir_term_of o s p) ≤ 200 → ⊥)
+      IsObstacle (Operand q i) = HasReadableText o find s p × IsFarUse isolated s (Operation p) (Operand q i)
+      IsObstacle (Successor q i) = HasReadableText o find s p × IsFarUse isolated s (Operation p) (Successor q i)

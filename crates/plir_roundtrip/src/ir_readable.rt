@@ -1,12 +1,12 @@
 //! Whether an operation of any kind is read back from its text as the same tree.
 ghost use Rattle.std.specs.Prelude.{◌≡◌, MatchOption};
 ghost use Rattle.plir_core.specs.declared.ptr.IRNode.{IRNode as AnyNode};
-ghost use Rattle.plir_core.specs.ContextView.{IsLive, children};
+ghost use Rattle.plir_core.specs.ContextView.{IsLive};
 ghost use Rattle.plir_core.specs.WellFormed.{IsWellFormed};
-ghost use Rattle.plir_walk.specs.Tree.{IsUnder};
 ghost use Rattle.plir_roundtrip.specs.IrReadable.{AreIrReadable};
 ghost use Rattle.plir_roundtrip.specs.IrReadableUses.{IsIrReadable};
-ghost use Rattle.plir_roundtrip.specs.Obstacles.{AreIdsApart, IsIrNodeReadable, IsNodeCounted, IsObstacle};
+ghost use Rattle.plir_roundtrip.specs.Obstacles.{AreIdsApart, IsFirstUnread, IsIrNodeReadable, IsNodeCounted};
+ghost use Rattle.plir_roundtrip.specs.Obstacles.{IsObstacle};
 ghost use Rattle.plir_roundtrip.specs.ReadableParts.{IsLookAnswer};
 ghost use Rattle.plir_roundtrip.specs.UsesWithin.{AreCounted};
 
@@ -44,8 +44,7 @@ fn find_unreadable<D: ReadSet>(ctx: &Context<D>, op: Ptr<Operation>) -> Option<I
     requires ids { AreIdsApart D.kind_id }
     ensures { MatchOption result
         (AreIrReadable D.OpSet D.find_kind ctx.now (AnyNode.Operation op) × AreCounted ctx.now (AnyNode.Operation op))
-        (λ n. IsUnder (children ctx.now) (AnyNode.Operation op) n ×
-        (IsIrNodeReadable D.OpSet D.find_kind ctx.now n → ⊥)) }
+        (IsFirstUnread D.OpSet D.find_kind ctx.now op) }
 {
     ctx.stands();
     let look = |ctx: &Context<D>, _state: &mut (), node: IRNode| -> WalkResult<IRNode>
@@ -72,12 +71,12 @@ pub fn ir_obstacle<D: ReadSet>(ctx: &Context<D>, op: Ptr<Operation>) -> Option<O
     requires live { IsLive ctx.now (AnyNode.Operation op) }
     requires ids { AreIdsApart D.kind_id }
     ensures value { MatchOption result (IsIrReadable D.OpSet D.find_kind D.is_isolated ctx.now op)
-        (IsObstacle D.OpSet D.find_kind ctx.now D.is_isolated op) }
+        (IsObstacle D.OpSet D.find_kind ctx.now op D.is_isolated) }
     ensures whole { IsWellFormed D.attr_handles ctx.now }
 {
     ctx.stands();
     if let Some(node) = find_unreadable(ctx, op) {
-        return Some(obstacle_at(ctx, op, node));
+        return Some(obstacle_at(ctx, node));
     }
     if !is_op_within(ctx, op, 200) {
         return Some(Obstacle::Levels);

@@ -1,14 +1,13 @@
 //! Whether an operation of one's own kind, or one of any kind, can be read, whatever stands below it.
 ghost use Rattle.std.specs.Prelude.{◌≡◌, ◌↔◌, ◌<◌, ◌^◌, All, IsErr, IsTrue, Some};
 ghost use Rattle.plir_core.specs.declared.ptr.IRNode.{IRNode as AnyNode};
-ghost use Rattle.plir_core.specs.ContextView.{IsLive, children, kind_of, label_of, operands_of, successors_of};
-ghost use Rattle.plir_walk.specs.Tree.{IsUnder};
+ghost use Rattle.plir_core.specs.ContextView.{IsLive, kind_of, label_of, operands_of, successors_of};
 ghost use Rattle.plir_attr_text.specs.Writable.{IsNameOrMark};
 ghost use Rattle.plir_read.specs.OpReading.{op_kind};
 ghost use Rattle.plir_read_ir.specs.IrGrammar.{own_kind};
 ghost use Rattle.plir_roundtrip.specs.IrReadable.{IsId, IsIrOpReadable, IsOwnReadable, IsUseReadable};
 ghost use Rattle.plir_roundtrip.specs.Obstacles.{AreIdsApart, AreTypesReadable, IsIrNodeReadable, IsKindNamed};
-ghost use Rattle.plir_roundtrip.specs.Obstacles.{IsNodeCounted, IsNodeNamed, IsObstacle};
+ghost use Rattle.plir_roundtrip.specs.Obstacles.{IsNodeCounted, IsNodeNamed, IsUnreadAs};
 
 use crate::entries::are_entries_readable;
 use crate::nodes::{is_block_readable, is_op_readable};
@@ -174,17 +173,12 @@ fn are_types_readable<D: ReadSet>(ctx: &Context<D>, node: IRNode) -> bool
     }
 }
 
-/// Why a node of the tree under a root cannot be read.
-pub(crate) fn obstacle_at<D: ReadSet>(
-    ctx: &Context<D>,
-    root: Ptr<Operation>,
-    node: IRNode,
-) -> Obstacle
+/// Why a node cannot be read that cannot.
+pub(crate) fn obstacle_at<D: ReadSet>(ctx: &Context<D>, node: IRNode) -> Obstacle
     requires live { IsLive ctx.now node }
     requires ids { AreIdsApart D.kind_id }
-    requires under { IsUnder (children ctx.now) (AnyNode.Operation root) node }
     requires unread { IsIrNodeReadable D.OpSet D.find_kind ctx.now node → ⊥ }
-    ensures { IsObstacle D.OpSet D.find_kind ctx.now D.is_isolated root result }
+    ensures { IsUnreadAs D.OpSet D.find_kind ctx.now node result }
 {
     if !is_node_named(ctx, node) {
         return Obstacle::Kind(node);

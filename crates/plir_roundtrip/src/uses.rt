@@ -3,7 +3,7 @@ ghost use Rattle.std.specs.Prelude.{MatchOption};
 ghost use Rattle.plir_core.specs.declared.ptr.IRNode.{IRNode as AnyNode};
 ghost use Rattle.plir_core.specs.ContextView.{IsLive, children};
 ghost use Rattle.plir_walk.specs.Tree.{IsUnder};
-ghost use Rattle.plir_roundtrip.specs.Obstacles.{IsFarUse, IsUsing};
+ghost use Rattle.plir_roundtrip.specs.Obstacles.{IsFarAt, IsFarUse, IsUsing};
 ghost use Rattle.plir_roundtrip.specs.ReadableParts.{IsLookAnswer};
 ghost use Rattle.plir_roundtrip.specs.UsesWithin.{UsesWithin};
 
@@ -25,7 +25,7 @@ fn find_far<D: ReadSet>(
     requires live { IsLive ctx.now (AnyNode.Operation op) }
     requires under { IsUnder (children ctx.now) (AnyNode.Operation root) (AnyNode.Operation op) }
     ensures { MatchOption result (IsUsing D.is_isolated ctx.now (AnyNode.Operation root) (AnyNode.Operation op))
-        (IsFarUse D.is_isolated ctx.now (AnyNode.Operation root)) }
+        (IsFarAt D.is_isolated ctx.now (AnyNode.Operation root) (AnyNode.Operation op)) }
 {
     if let Some(place) = far_operand(ctx, root, op) {
         return Some(Obstacle::Operand(op, place));
@@ -45,7 +45,7 @@ fn look_at_uses<D: ReadSet>(
     requires live { IsLive ctx.now node }
     requires under { IsUnder (children ctx.now) (AnyNode.Operation root) node }
     ensures { IsLookAnswer (IsUsing D.is_isolated ctx.now (AnyNode.Operation root) node)
-        (IsFarUse D.is_isolated ctx.now (AnyNode.Operation root)) result }
+        (IsFarAt D.is_isolated ctx.now (AnyNode.Operation root) node) result }
 {
     let IRNode::Operation(op) = node else {
         return walk_advance();
@@ -68,7 +68,7 @@ pub(crate) fn find_far_use<D: ReadSet>(ctx: &Context<D>, op: Ptr<Operation>) -> 
         requires live { IsLive ctx.now node }
         requires under { IsUnder (children ctx.now) (AnyNode.Operation op) node }
         ensures { IsLookAnswer (IsUsing D.is_isolated ctx.now (AnyNode.Operation op) node)
-            (IsFarUse D.is_isolated ctx.now (AnyNode.Operation op)) result }
+            (IsFarAt D.is_isolated ctx.now (AnyNode.Operation op) node) result }
     { look_at_uses(ctx, op, node) };
     match walk_op(ctx, &mut (), &WALKCONFIG_PREORDER_FORWARD, op, look) {
         ControlFlow::Break(obstacle) => Some(obstacle),

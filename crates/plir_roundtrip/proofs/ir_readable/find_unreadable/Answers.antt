@@ -2,7 +2,7 @@ use Rattle.std.proofs.Common.{◌≡◌, sym, subst}
 use Rattle.plir_core.specs.ContextView.{IsLive, children}
 use Rattle.plir_core.specs.declared.ptr.IRNode.TheVariants.{Operation}
 use Rattle.plir_walk.specs.Tree.{IsUnder}
-use Rattle.plir_roundtrip.specs.Obstacles.{IsIrNodeReadable, IsNodeCounted}
+use Rattle.plir_roundtrip.specs.Obstacles.{IsFirstUnread, IsIrNodeReadable, IsNodeCounted}
 use Rattle.plir_roundtrip.specs.ReadableParts.{IsLookAnswer}
 use Rattle.plir_roundtrip.proofs.Obstructed.{all_looked_at}
 use Rattle.plir_roundtrip.proofs.ReadableCalls.{broke_off, went_on}
@@ -23,10 +23,13 @@ returns-in-Break g c =
       subst (λ z. IsLookAnswer (IsIrNodeReadable o f z n × IsNodeCounted o f z n)
           (λ b. (b ≡ n) × (IsIrNodeReadable o f z b → ⊥)) a) h.shows.0 h.met.1,
     ))
-    c.args.ctx.now c.args.op _ _ _ _ c.in-Break.is c.walk_op.ensures in (
-      subst (IsUnder (children c.args.ctx.now) (Operation c.args.op)) (sym found.2.0) found.1,
-      found.2.1,
-    )
+    c.args.ctx.now c.args.op _ _ _ _ c.in-Break.is c.walk_op.ensures in
+    let is = found.found.0 in
+    subst (IsFirstUnread o f c.args.ctx.now c.args.op) (sym is) (record {
+      within = found.under;
+      unread = subst (λ z. IsIrNodeReadable o f c.args.ctx.now z → ⊥) is found.found.1;
+      others = λ m u before other. (found.others m u before other).0;
+    })
 
 pub returns-in-Continue : goal.returns-in-Continue
 returns-in-Continue g c =

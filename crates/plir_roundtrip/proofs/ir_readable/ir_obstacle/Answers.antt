@@ -3,13 +3,18 @@ use Rattle.plir_core.specs.Forest.{look}
 use Rattle.plir_core.specs.declared.ptr.IRNode.TheVariants.{Operation}
 use Rattle.plir_walk.specs.TreeLaws.{under-live}
 use Rattle.plir_roundtrip.specs.IrReadable.{HasReadableText}
-use Rattle.plir_roundtrip.proofs.Obstructed.{told_by_uses}
+use Rattle.plir_roundtrip.proofs.Obstructed.{told_by_node, told_by_uses}
 use Rattle.plir_roundtrip.proofs.ir_readable.ir_obstacle.Goals as goal
 
 pub obstacle_at-requires-clause-live : goal.obstacle_at-requires-clause-live
 obstacle_at-requires-clause-live g c =
     under-live (look c.args.ctx.now) c.stands.ensures.standing.forest (Operation c.args.op) c.in-Some.node
-    c.requires.live c.in-Some.ensures.0
+    c.requires.live c.in-Some.ensures.within
+
+pub returns-in-Some-clause-value : goal.returns-in-Some-clause-value
+returns-in-Some-clause-value g c =
+    told_by_node g.D.OpSet g.D.ReadSet.find_kind g.D.ReadSet.is_isolated c.args.ctx.now c.args.op c.in-Some.node
+    c.obstacle_at.result c.in-Some.ensures c.obstacle_at.ensures
 
 pub returns-then-not-is_op_within-clause-value : goal.returns-then-not-is_op_within-clause-value
 returns-then-not-is_op_within-clause-value g c = (

@@ -12,7 +12,7 @@ returns-in-Break g c = (
       broke_off _ _ (λ s n. IsNodeReadable s n) (λ s n u. IsNodeReadable s n → ⊥)
       (λ d s n a d' s' h. (h.stays, subst (λ z. IsAnswerAt z n a) h.shows.0 h.met.1))
       c.args.ctx.now c.args.op _ _ _ _ c.in-Break.is c.walk_op.ensures in
-      absurd (found.2 (each_readable c.args.ctx.now (Operation c.args.op) found.0 all found.1)),
+      absurd (found.found (each_readable c.args.ctx.now (Operation c.args.op) found.node all found.under)),
 )
 
 pub returns-in-Continue : goal.returns-in-Continue
