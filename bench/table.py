@@ -78,11 +78,16 @@ PASSES = (
     ("dead symbols of a star erased, a symbol", "symbol-star", "drop-symbols", 1),
 )
 
+# Modules that a pass makes ten times as large have no rows beyond this size.
+GROWING = ("calls", "callers")
+MOST_GROWN = 100_000
+
 
 def series(largest):
     """The rows of one pass, or of lists of erasures, the smallest first."""
-    sizes = [size for size in (1_000, 10_000, 100_000, 1_000_000) if size <= largest]
+    all_sizes = [size for size in (1_000, 10_000, 100_000, 1_000_000) if size <= largest]
     for what, shape, command, units in PASSES:
+        sizes = [size for size in all_sizes if shape not in GROWING or size <= MOST_GROWN]
         for suffix in ("", "-against"):
             order = "against" if suffix else "along"
             small = [f"{shape}{suffix} 1", command]
@@ -91,10 +96,10 @@ def series(largest):
                 Row(f"{what}; {size:,} {order}", BOTH, lines, [*lines, command], units * size, size, small)
                 for size, lines in zip(sizes, build)
             ]
-    build = [[f"build {size}"] for size in sizes]
+    build = [[f"build {size}"] for size in all_sizes]
     yield [
         Row(f"list of erasures, a symbol; {size:,}", BOTH, lines, [*lines, f"erase-list {size}"], size)
-        for size, lines in zip(sizes, build)
+        for size, lines in zip(all_sizes, build)
     ]
 
 
