@@ -1,5 +1,5 @@
 //! Folding, as a pass.
-ghost use Rattle.std.specs.Prelude.{[], codes, IfErr, IfOk, OnOk};
+ghost use Rattle.std.specs.Prelude.{◌≡◌, ◌↔◌, [], codes, false, IfErr, IfOk, OnOk};
 ghost use Rattle.plir_core.specs.ContextView.{IsLive};
 ghost use Rattle.plir_core.specs.declared.ptr.IRNode.{IRNode as AnyNode};
 ghost use Rattle.plir_driver.specs.PassEnds.{IsEnd};
@@ -44,7 +44,7 @@ impl Offered for FoldPass {
 
 // What a pass ends with that has changed something, or nothing.
 fn end_of(any: bool) -> PassEnd
-    ensures { result ≡ (if any then PassEnd.Changed else PassEnd.Unchanged) }
+    ensures { (any ≡ false) ↔ (result ≡ PassEnd.Unchanged) }
 {
     if any {
         PassEnd::Changed

@@ -36,27 +36,54 @@ fn routine(
     put(types, HolderType::Routine(TypeSig { arguments, results }))
 }
 
+// The text of a type that the table holds.
+fn text_of(alloc: Global, types: &Types, ty: TypeHandle) -> Result<String, Memory> {
+    if !types.holds_type(ty) {
+        return Err(Memory);
+    }
+    Ok(again!(type_text(alloc, types, ty)))
+}
+
+// The text of an attribute whose handles name types of the table.
+fn text_of_attr(alloc: Global, types: &Types, attr: &AttrObj<HolderSet>) -> Result<String, Memory> {
+    if !attr.is_live(types) {
+        return Err(Memory);
+    }
+    Ok(again!(print_attr(alloc, types, attr)))
+}
+
+// An integer type of 8 bits with a sign.
+fn si8(types: &mut Types) -> Result<TypeHandle, Memory> {
+    Ok(IntegerType::get(types, 8, Signedness::Signed)?.into())
+}
+
+// The text of a tensor of tensors, and of a routine from a tensor.
+fn type_texts(alloc: Global, types: &mut Types) -> Result<(String, String), Memory> {
+    let byte = again!(si8(types));
+    let row = again!(tensor(types, 4, byte));
+    let table = again!(tensor(types, 2, row));
+    let called = again!(routine(alloc, types, row, byte));
+    let text = text_of(alloc, types, table)?;
+    Ok((text, text_of(alloc, types, called)?))
+}
+
 #[test]
 fn writes_the_types_that_a_type_holds_where_memory_is_refused(rt: HostRuntime) -> Result<(), Fail> {
     let alloc = rt.alloc();
     let mut types: Types = TypeTable::new(alloc);
-    let si8 = again!(IntegerType::get(&mut types, 8, Signedness::Signed)).into();
-    let row = again!(tensor(&mut types, 4, si8));
-    let table = again!(tensor(&mut types, 2, row));
-    assert!(rt; types.holds_type(table));
-    let text = again!(type_text(alloc, &types, table));
-    assert!(rt; text.as_str() == "holder.tensor <2 x holder.tensor <4 x builtin.integer si8>>");
-    let called = again!(routine(alloc, &mut types, row, si8));
-    assert!(rt; types.holds_type(called));
-    let text = again!(type_text(alloc, &types, called));
-    let arguments = "from holder.tensor <4 x builtin.integer si8> builtin.integer si8";
-    assert!(rt; text.as_str().starts_with("holder.routine "));
-    assert!(rt; text.as_str().contains(arguments));
-    assert!(rt;
-        text.as_str()
-            .ends_with(" to holder.tensor <4 x builtin.integer si8>")
-    );
+    let (table, called) = type_texts(alloc, &mut types)?;
+    assert!(rt; table.as_str() == "holder.tensor <2 x holder.tensor <4 x builtin.integer si8>>");
+    let routine = "holder.routine from holder.tensor <4 x builtin.integer si8> builtin.integer si8 \
+        to holder.tensor <4 x builtin.integer si8>";
+    assert!(rt; called.as_str() == routine);
     Ok(())
+}
+
+// The text of an own attribute with a type.
+fn dense_text(alloc: Global, types: &mut Types) -> Result<String, Memory> {
+    let byte = again!(si8(types));
+    let ty = again!(tensor(types, 4, byte));
+    text_of_attr(alloc, types, &AttrObj::Own(Dense { value: 7, ty }))
 }
 
 #[test]
@@ -65,12 +92,7 @@ fn writes_the_type_that_an_attribute_holds_where_memory_is_refused(
 ) -> Result<(), Fail> {
     let alloc = rt.alloc();
     let mut types: Types = TypeTable::new(alloc);
-    let si8 = again!(IntegerType::get(&mut types, 8, Signedness::Signed)).into();
-    let ty = again!(tensor(&mut types, 4, si8));
-    let attr = AttrObj::Own(Dense { value: 7, ty });
-    assert!(rt; attr.typed() == Some(ty));
-    assert!(rt; attr.is_live(&types));
-    let text = again!(print_attr(alloc, &types, &attr));
+    let text = dense_text(alloc, &mut types)?;
     assert!(rt; text.as_str() == "holder.dense <7> : holder.tensor <4 x builtin.integer si8>");
     Ok(())
 }
@@ -83,19 +105,32 @@ fn pair(alloc: Global, ty: TypeHandle) -> Result<AttrObj<HolderSet>, Memory> {
     Ok(AttrObj::Vec(VecAttr::new(items)))
 }
 
+// The text of such a list.
+fn list_text(alloc: Global, types: &mut Types) -> Result<String, Memory> {
+    let byte = again!(si8(types));
+    let list = again!(pair(alloc, byte));
+    text_of_attr(alloc, types, &list)
+}
+
 #[test]
 fn writes_the_own_attributes_of_a_list_where_memory_is_refused(
     rt: HostRuntime,
 ) -> Result<(), Fail> {
     let alloc = rt.alloc();
     let mut types: Types = TypeTable::new(alloc);
-    let si8 = again!(IntegerType::get(&mut types, 8, Signedness::Signed)).into();
-    let list = again!(pair(alloc, si8));
-    assert!(rt; list.is_live(&types));
-    let text = again!(print_attr(alloc, &types, &list));
+    let text = list_text(alloc, &mut types)?;
     let written =
         "builtin.vec [holder.dense <7> : builtin.integer si8, holder.dense <8> : builtin.integer si8]";
     assert!(rt; text.as_str() == written);
+    Ok(())
+}
+
+#[test]
+fn tells_which_type_an_attribute_has(rt: HostRuntime) -> Result<(), Fail> {
+    let mut types: Types = TypeTable::new(rt.alloc());
+    let ty = again!(si8(&mut types));
+    let attr: AttrObj<HolderSet> = AttrObj::Own(Dense { value: 7, ty });
+    assert!(rt; attr.typed() == Some(ty));
     Ok(())
 }
 
