@@ -63,10 +63,10 @@ fn find_unreadable<D: ReadSet>(ctx: &Context<D>, op: Ptr<Operation>) -> Option<I
 /// What stands against reading an operation of any kind back from its text as the same tree; none, where nothing does:
 /// then what the law of the round trip asks of the operation holds.
 ///
-/// Looked at are first the nodes at and under the operation, in the order of a walk; then the levels of the text; then
-/// what each operation uses, in the order of the walk: its operands, and its successors, from 0. Takes no memory, and
-/// calls itself no deeper than 200 levels; an operand is looked for by a climb, which has at most as many steps as
-/// there are nodes above one another.
+/// What is told is what stands against it first. Looked at are the nodes at and under the operation, in the order of a
+/// walk; then the levels of the text; then what each operation uses, in the order of the walk: its operands, and its
+/// successors, from 0. No two kinds of the set may have one id. Takes no memory, and calls itself no deeper than 200
+/// levels; where an operand can be named is found by a climb, which has at most 600 steps in the tree.
 pub fn ir_obstacle<D: ReadSet>(ctx: &Context<D>, op: Ptr<Operation>) -> Option<Obstacle>
     requires live { IsLive ctx.now (AnyNode.Operation op) }
     requires ids { AreIdsApart D.kind_id }

@@ -13,8 +13,8 @@ pub enum Obstacle {
     /// An operation with a result, or a block with an argument, whose type is no builtin one.
     #[error("{0} has a result or an argument of a type that cannot be read")]
     Types(IRNode),
-    /// An operation or a block that holds what its text does not tell, or what cannot be written, as an attribute of an
-    /// own type.
+    /// An operation or a block that holds what its text does not tell, or what cannot be read, as an attribute of one's
+    /// own.
     #[error("{0} holds what its text does not tell")]
     Content(IRNode),
     /// The text has more than 200 levels.
