@@ -50,7 +50,7 @@ use Rattle.plir_roundtrip.proofs.Children.{block_readable, HasRoom, some_room, l
 use Rattle.plir_roundtrip.proofs.MeantAgain.{handle_again, attr_again, dictionary_again}
 use Rattle.plir_roundtrip.proofs.NamesAgain.{names_again, no_others, name_in_row}
 use Rattle.plir_roundtrip.proofs.OpSame.{op_held, block_held, module_holds_same, func_holds_same, body_same}
-use Rattle.plir_roundtrip.proofs.OpSame.{constant_same, value_of_place, typed}
+use Rattle.plir_roundtrip.proofs.OpSame.{constant_same, value_of_place}
 use Rattle.plir_roundtrip.proofs.OpParts.{constant_there, func_type_there}
 use Rattle.plir_roundtrip.proofs.PrintedNames.{block_name_given, argument_name_given}
 use Rattle.plir_roundtrip.proofs.EntriesShown.{filter_dictionary, shown_writable}

@@ -1,7 +1,5 @@
 use Rattle.std.proofs.Common.{◌≡◌, sym, subst}
-use Rattle.plir_core.specs.ContextView.{IsLive, children}
-use Rattle.plir_core.specs.declared.ptr.IRNode.TheVariants.{Operation}
-use Rattle.plir_walk.specs.Tree.{IsUnder}
+use Rattle.plir_core.specs.ContextView.{IsLive}
 use Rattle.plir_roundtrip.specs.Obstacles.{IsFirstUnread, IsIrNodeReadable, IsNodeCounted}
 use Rattle.plir_roundtrip.specs.ReadableParts.{IsLookAnswer}
 use Rattle.plir_roundtrip.proofs.Obstructed.{all_looked_at}
