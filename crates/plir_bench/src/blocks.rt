@@ -100,7 +100,9 @@ fn add_branch(
 ) -> Result<(), Stop> {
     live_block(ctx, from)?;
     live_block(ctx, to)?;
-    let branch = make_op(alloc, ctx, OpKind::Func, &[], &[], &[to], 0)?;
+    let successors = Vec::from_slice(alloc, &[to])?;
+    let (types, operands) = (Vec::new(alloc), Vec::new(alloc));
+    let branch = make_op(alloc, ctx, OpKind::Func, types, operands, successors, 0)?;
     put_op(ctx, from, branch, Order::Along);
     Ok(())
 }

@@ -27,7 +27,7 @@ pub fn build_functions(
 ) -> Result<Ptr<Operation>, Stop> {
     let (root, body) = build_root(alloc, ctx)?;
     for number in 0..functions {
-        add_function(alloc, ctx, body, number, &[], Order::Along)?;
+        add_plain_function(alloc, ctx, body, number, Order::Along)?;
     }
     Ok(root)
 }
@@ -59,36 +59,60 @@ pub fn build_root(
     Ok((root, body))
 }
 
-/// Puts the function of a number into a block, whose arguments and whose results are of these types.
+/// Puts the function of a number into a block, without arguments and results.
+pub fn add_plain_function(
+    alloc: Global,
+    ctx: &mut Context<BenchSet>,
+    body: Ptr<BasicBlock>,
+    number: u64,
+    order: Order,
+) -> Result<Ptr<Operation>, Stop>
+    requires { IsLive ctx.old (AnyNode.BasicBlock body) }
+    ensures { OnOk result (IsLive ctx.new (AnyNode.BasicBlock body)) }
+{
+    add_function(
+        alloc,
+        ctx,
+        body,
+        number,
+        Vec::new(alloc),
+        Vec::new(alloc),
+        order,
+    )
+}
+
+/// Puts the function of a number into a block, with arguments and results of these types.
 pub fn add_function(
     alloc: Global,
     ctx: &mut Context<BenchSet>,
     body: Ptr<BasicBlock>,
     number: u64,
-    types: &[TypeHandle],
+    arguments: Vec<TypeHandle>,
+    results: Vec<TypeHandle>,
     order: Order,
 ) -> Result<Ptr<Operation>, Stop>
     requires body_live { IsLive ctx.old (AnyNode.BasicBlock body) }
-    requires types_live { AllLive ctx.old.types types.now }
+    requires arguments_live { AllLive ctx.old.types arguments.items }
+    requires results_live { AllLive ctx.old.types results.items }
     ensures { OnOk result (IsLive ctx.new (AnyNode.BasicBlock body)) }
 {
-    let func = make_function(alloc, ctx, number, types)?;
+    let func = make_function(alloc, ctx, number, arguments, results)?;
     put_op(ctx, body, func, order);
     Ok(func)
 }
 
-// The function of a number in no block, whose arguments and whose results are of these types.
+// The function of a number in no block, with arguments and results of these types.
 fn make_function(
     alloc: Global,
     ctx: &mut Context<BenchSet>,
     number: u64,
-    types: &[TypeHandle],
+    arguments: Vec<TypeHandle>,
+    results: Vec<TypeHandle>,
 ) -> Result<Ptr<Operation>, Stop>
-    requires { AllLive ctx.old.types types.now }
+    requires arguments_live { AllLive ctx.old.types arguments.items }
+    requires results_live { AllLive ctx.old.types results.items }
     ensures { IfOk result (λ p. IsMade ctx.old.nodes ctx.new.nodes (AnyNode.Operation p)) }
 {
-    let arguments = Vec::from_slice(alloc, types)?;
-    let results = Vec::from_slice(alloc, types)?;
     let ty = FunctionType::get(ctx, arguments, results)?;
     let name = name_of(alloc, number)?;
     let func = FuncOp::new(alloc, ctx, name, ty)?;
@@ -100,7 +124,10 @@ fn add_bare(alloc: Global, ctx: &mut Context<BenchSet>, body: Ptr<BasicBlock>) -
     requires { IsLive ctx.old (AnyNode.BasicBlock body) }
     ensures { OnOk result (IsLive ctx.new (AnyNode.BasicBlock body)) }
 {
-    let op = make_op(alloc, ctx, OpKind::Func, &[], &[], &[], 1)?;
+    let types = Vec::new(alloc);
+    let operands = Vec::new(alloc);
+    let successors = Vec::new(alloc);
+    let op = make_op(alloc, ctx, OpKind::Func, types, operands, successors, 1)?;
     put_op(ctx, body, op, Order::Along);
     add_block(alloc, ctx, op)
 }
@@ -127,19 +154,16 @@ pub fn make_op(
     alloc: Global,
     ctx: &mut Context<BenchSet>,
     kind: OpKind<BenchKind>,
-    types: &[TypeHandle],
-    operands: &[Value],
-    successors: &[Ptr<BasicBlock>],
+    types: Vec<TypeHandle>,
+    operands: Vec<Value>,
+    successors: Vec<Ptr<BasicBlock>>,
     regions: usize,
 ) -> Result<Ptr<Operation>, Stop>
-    requires types_live { AllLive ctx.old.types types.now }
-    requires operands_live { All (IsValueLive ctx.old) operands.now }
-    requires successors_live { All (λ b. IsLive ctx.old (AnyNode.BasicBlock b)) successors.now }
+    requires types_live { AllLive ctx.old.types types.items }
+    requires operands_live { All (IsValueLive ctx.old) operands.items }
+    requires successors_live { All (λ b. IsLive ctx.old (AnyNode.BasicBlock b)) successors.items }
     ensures { IfOk result (λ p. IsMade ctx.old.nodes ctx.new.nodes (AnyNode.Operation p)) }
 {
-    let types = Vec::from_slice(alloc, types)?;
-    let operands = Vec::from_slice(alloc, operands)?;
-    let successors = Vec::from_slice(alloc, successors)?;
     Ok(Operation::new(alloc, ctx, kind, types, operands, successors, regions)?)
 }
 
@@ -158,7 +182,9 @@ pub fn add_op(
     requires operands_live { All (IsValueLive ctx.old) operands.now }
     ensures { OnOk result (IsLive ctx.new (AnyNode.BasicBlock body)) }
 {
-    let op = make_op(alloc, ctx, kind, types, operands, &[], 0)?;
+    let types = Vec::from_slice(alloc, types)?;
+    let operands = Vec::from_slice(alloc, operands)?;
+    let op = make_op(alloc, ctx, kind, types, operands, Vec::new(alloc), 0)?;
     put_op(ctx, body, op, order);
     Ok(op)
 }

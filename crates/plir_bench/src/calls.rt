@@ -3,7 +3,7 @@ ghost use Rattle.std.specs.Prelude.{IfOk};
 ghost use Rattle.plir_core.specs.ContextView.{IsLive, IsValueLive};
 ghost use Rattle.plir_core.specs.declared.ptr.IRNode.{IRNode as AnyNode};
 
-use crate::building::{add_function, add_op, body_of, build_root, live_block};
+use crate::building::{add_function, add_op, add_plain_function, body_of, build_root, live_block};
 use crate::chains::{add_chain, add_user, add_value};
 use crate::flow::ATTR_KEY_CALLEE;
 use crate::kinds::{BenchKind, BenchSet};
@@ -53,7 +53,9 @@ fn build_callee(
 ) -> Result<(Ptr<Operation>, Ptr<BasicBlock>), Stop> {
     let (root, body) = build_root(alloc, ctx)?;
     let ty = value_type(ctx)?;
-    let callee = add_function(alloc, ctx, body, 0, &[ty], order)?;
+    let arguments = Vec::from_slice(alloc, &[ty])?;
+    let results = Vec::from_slice(alloc, &[ty])?;
+    let callee = add_function(alloc, ctx, body, 0, arguments, results, order)?;
     fill_callee(alloc, ctx, callee)?;
     Ok((root, body))
 }
@@ -97,7 +99,7 @@ fn add_caller(
     order: Order,
 ) -> Result<(), Stop> {
     live_block(ctx, body)?;
-    let caller = add_function(alloc, ctx, body, number, &[], order)?;
+    let caller = add_plain_function(alloc, ctx, body, number, order)?;
     let entry = body_of(ctx, caller)?;
     let mut last = add_value(alloc, ctx, entry, OpKind::Constant, None, Order::Along)?;
     for _ in 0..calls {

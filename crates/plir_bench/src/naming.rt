@@ -1,6 +1,8 @@
 //! Private symbols, and what uses their names.
 
-use crate::building::{add_function, add_op, body_of, build_root, live_block, live_op, name_of};
+use crate::building::{
+    add_op, add_plain_function, body_of, build_root, live_block, live_op, name_of,
+};
 use crate::kinds::BenchSet;
 use crate::order::Order;
 use crate::stop::Stop;
@@ -23,7 +25,7 @@ pub fn build_symbol_chain(
         put_name(alloc, ctx, op, "uses", place + 1)?;
     }
     live_block(ctx, body)?;
-    let public = add_function(alloc, ctx, body, number, &[], order)?;
+    let public = add_plain_function(alloc, ctx, body, number, order)?;
     put_name(alloc, ctx, public, "uses", number / 2)?;
     Ok(root)
 }
@@ -44,7 +46,7 @@ pub fn build_symbol_star(
     add_users(alloc, ctx, private, 0, number / 2)?;
     live_block(ctx, body)?;
     let last = number.wrapping_add(1);
-    let public = add_function(alloc, ctx, body, last, &[], order)?;
+    let public = add_plain_function(alloc, ctx, body, last, order)?;
     add_users(alloc, ctx, public, number / 2, number)?;
     Ok(root)
 }
@@ -58,7 +60,7 @@ fn add_private(
     order: Order,
 ) -> Result<Ptr<Operation>, Stop> {
     live_block(ctx, body)?;
-    let op = add_function(alloc, ctx, body, number, &[], order)?;
+    let op = add_plain_function(alloc, ctx, body, number, order)?;
     make_private(alloc, ctx, op)?;
     Ok(op)
 }
