@@ -5,7 +5,7 @@ use crate::folding::chains::{Layout, Links, folds};
 use plir_core::{Context, DefiningEntity, NodeErr, Value};
 use plir_data::keys::ATTR_KEY_CONSTANT_VALUE;
 use plir_data::{AttrObj, KindSet, OpKind};
-use plir_folding::{fold_constants, fold_values};
+use plir_folding::{fold_constants, fold_values, merge_constants};
 use plir_scripts::{Bench, Layer, Line, Mismatch, NodeCalls, ScriptKind, Stop, number, play};
 use std::alloc::Global;
 
@@ -21,7 +21,7 @@ impl ScriptKind for ToyKind {
     }
 }
 
-/// The calls of this crate, `fold OP`, `fold-values OP`, `operand OP PLACE`, `written OP PLACE` and
+/// The calls of this crate, `fold OP`, `fold-values OP`, `merge OP`, `operand OP PLACE`, `written OP PLACE` and
 /// `fold-chain LAYOUT LINKS`, and those on nodes.
 struct FoldCalls;
 
@@ -30,6 +30,7 @@ impl Layer<KindSet<ToyKind>> for FoldCalls {
         match line.command {
             "fold" => fold(bench, line),
             "fold-values" => values(bench, line),
+            "merge" => merge(bench, line),
             "operand" => operand(bench, line),
             "written" => written(bench, line),
             "fold-chain" => fold_chain(bench, line),
@@ -59,6 +60,14 @@ fn values(bench: &mut Bench<KindSet<ToyKind>>, line: Line<'_>) -> Result<(), Sto
         fold_values(bench.alloc, &mut bench.ctx, op)?;
     }
     bench.answer.put("done");
+    Ok(())
+}
+
+// Merges constants: whether an operand has changed.
+fn merge(bench: &mut Bench<KindSet<ToyKind>>, line: Line<'_>) -> Result<(), Stop> {
+    let op = bench.made.op(&bench.ctx, line.first)?;
+    let changed = merge_constants(bench.alloc, &mut bench.ctx, op)?;
+    bench.answer.put_truth(changed);
     Ok(())
 }
 
