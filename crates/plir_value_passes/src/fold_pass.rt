@@ -43,7 +43,7 @@ impl Offered for FoldPass {
 }
 
 // What a pass ends with that has changed something, or nothing.
-fn end_of(any: bool) -> PassEnd
+fn fold_end(any: bool) -> PassEnd
     ensures { (any ≡ false) ↔ (result ≡ PassEnd.Unchanged) }
 {
     if any {
@@ -76,7 +76,7 @@ fn fold_all<D: FoldSet + IdentitySet>(
     let values = fold_values(alloc, ctx, root)?;
     merging_keeps_passed::<D>();
     let merged = merge_constants(alloc, ctx, root)?;
-    Ok(end_of(constants || values || merged))
+    Ok(fold_end(constants || values || merged))
 }
 
 impl<D: FoldSet + IdentitySet> Pass<D> for FoldPass {
