@@ -153,10 +153,10 @@ fn merge_all<D: OpSet>(ctx: &mut Context<D>, root: Ptr<Operation>, merges: &[Mer
 
 /// Merges constants of the same integer in each block below an operation: whatever uses the result of one of them uses
 /// that of the first one in the block afterwards, wherever the user stands. A constant counts here where it has one
-/// result, which is of its integer's type; two are of the same integer where type, width and bits are the same. Operands
-/// alone change. No operation comes or goes or moves: the later constants stay where they are, without a use, and dead
-/// code elimination takes them. Since the first constant of a block stands before the others there, an operand that
-/// came behind its constant still does. Answers whether any operand has changed.
+/// result, which is of its integer's type; two are of the same integer where type, width and bits are the same.
+/// Operands alone change. No operation comes or goes or moves: the later constants stay where they are, without a use,
+/// and dead code elimination takes them. Since the first constant of a block stands before the others there, an
+/// operand that came behind its constant still does. Answers whether any operand has changed.
 ///
 /// The tree is walked once, with a hash map for each block, and a replacement looks at the users of the one value.
 ///

@@ -89,8 +89,8 @@ pub fn builtin_texts_are_read<D: ReadSet>()
 
 /// What `ir_tree_is_read_back` asks holds of each live operation of a context whose text stands for it, and at or under
 /// which each operation uses what it can name: results and arguments of nodes of the tree that stand inside the same
-/// modules, functions and isolated operations of it, and blocks of the region in which its own block stands. `ir_obstacle`
-/// tests that.
+/// modules, functions and isolated operations of it, and blocks of the region in which its own block stands.
+/// `ir_obstacle` tests that.
 pub fn ir_uses_stand<D: ReadSet>()
     ensures { ReadableUsesStand D.OpSet D.find_kind D.is_isolated }
 {
