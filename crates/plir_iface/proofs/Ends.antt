@@ -2,6 +2,8 @@
 use Rattle.std.proofs.Common.{◌≡◌, ◌↔◌, ℕ, suc, Bool, true, List, [], ◌∷◌, length, map, Some, None, inl, inr, refl, sym}
 use Rattle.std.proofs.Common.{ap, subst, ◌∙◌, arith, ◌&&◌, eqb}
 use Rattle.std.specs.Prelude.{option_map, IsTrue}
+use Rattle.std.proofs.Math.Bool.{and-true}
+use Rattle.std.proofs.lemmas.Bool.Decides.{Decides-at}
 use Rattle.std.proofs.lemmas.Option.{same_Some, none-some}
 use Rattle.plir_store.specs.Members.{Has, Distinct, head}
 use Rattle.plir_store.specs.Lists.{children_at, last_from, last_of}
@@ -11,6 +13,7 @@ use Rattle.plir_core.specs.declared.ptr.BasicBlock.{BasicBlock as BasicBlockKind
 use Rattle.plir_core.specs.declared.ptr.IRNode.{IRNode}
 use Rattle.plir_core.specs.declared.ptr.IRNode.TheVariants.{Operation, Region, BasicBlock}
 use Rattle.plir_core.specs.Nodes.{Nodes, block_node, is_node_live, node_children, node_first, node_last}
+use Rattle.plir_core.specs.SameValue.{same_ptr, ptr-exact}
 use Rattle.plir_core.specs.Stored.{IsStored}
 
 last-in : (y : ℕ) (ys : List ℕ) → (z : ℕ) × (Has (y ∷ ys) z × (last_from (Some y) ys ≡ Some z))
@@ -70,17 +73,6 @@ module _ {O B : Type 0} (s : Nodes O B) (w : IsStored s) (r : Ptr RegionKind)
 -- whether two pointers have one slot and one version
 pub same-ptr : {X : Type 0} (p q : Ptr X) (b : Bool) → b ≡ (eqb p.slot q.slot && (eqb p.version q.version && true))
     → IsTrue b ↔ (p ≡ q)
-same-ptr {X} p q b e = (
-  λ h.
-      let slots : p.slot ≡ q.slot = grind arith in
-      let versions : p.version ≡ q.version = grind arith in
-      ap (λ (n : ℕ). let r : Ptr X = record { slot = n; version = p.version; kind = record {} } in r) slots
-      ∙ ap (λ (n : ℕ). let r : Ptr X = record { slot = q.slot; version = n; kind = record {} } in r) versions,
-  λ h.
-      let slots : p.slot ≡ q.slot = ap (λ (r : Ptr X). r.slot) h in
-      let versions : p.version ≡ q.version = ap (λ (r : Ptr X). r.version) h in
-      grind arith,
-)
-
-pub through : {A B C : Type 0} → (A ↔ B) → (B ↔ C) → A ↔ C
-through f g = (λ a. g.0 (f.0 a), λ c. f.1 (g.1 c))
+same-ptr p q b e =
+    Decides-at b (same_ptr p q) (e ∙ ap (λ v. eqb p.slot q.slot && v) (and-true (eqb p.version q.version)))
+    (ptr-exact p q)

@@ -1,5 +1,4 @@
 -- The lemmas that proofs of this crate cite.
 pub mod Ends
-pub mod ListPlaces
-pub mod Refusals
+pub mod FirstFailing
 pub mod Spans

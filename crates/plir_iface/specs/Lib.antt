@@ -1,6 +1,7 @@
 -- What the contracts of this crate cite.
 --
 --   Verdict      IsRefusal: how a verifier refuses
+--   VerdictLaws  what follows from a refusal, for the proofs of every crate
 --   Counts       how many regions, results and operands an operation has, and the rules of these numbers
 --   CountRefusals  IsNRegionsRefusal and kin: how the rules of counts are refused
 --   Regions      the rules of regions and blocks
@@ -12,6 +13,7 @@
 --   IndexRange   IsIndexRange: ranges of indices in a list
 --   Ids          op_id: the ids of operations
 pub mod Verdict
+pub mod VerdictLaws
 pub mod Counts
 pub mod CountRefusals
 pub mod Regions

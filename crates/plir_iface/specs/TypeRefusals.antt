@@ -12,18 +12,15 @@ use Rattle.plir_iface.specs.Sides.{type_in, types_on}
 use Rattle.plir_iface.specs.Places.{NeedsMore, IsLongEnough, IsAmong, signed}
 use Rattle.plir_iface.specs.TypeRules.{FailsFirst}
 use Rattle.plir_iface.specs.Verdict.{IsRefusal, IsRefusalMemoryAside}
-use Rattle.plir_iface.specs.declared.places.Places.{Places}
 use Rattle.plir_iface.specs.declared.places.Places.TheVariants.{At, Within}
-use Rattle.plir_iface.specs.declared.side.Side.{Side}
+use Rattle.plir_iface.specs.declared.{places.Places.Places, side.Side.Side}
 use Rattle.plir_iface.specs.declared.side.Side.TheVariants.{Operands, Results}
 use Rattle.plir_iface.specs.declared.counts.NotEnoughOperandsErr.{NotEnoughOperandsErr}
 use Rattle.plir_iface.specs.declared.counts.NotEnoughResultsErr.{NotEnoughResultsErr}
 use Rattle.plir_iface.specs.declared.type_errors.AllOperandsOfTypeVerifyErr.{AllOperandsOfTypeVerifyErr}
 use Rattle.plir_iface.specs.declared.type_errors.AllResultsOfTypeVerifyErr.{AllResultsOfTypeVerifyErr}
-use Rattle.plir_iface.specs.declared.type_errors.OtherKind.{OtherKind}
-use Rattle.plir_iface.specs.declared.type_errors.TooFew.{TooFew as FewValues}
-use Rattle.plir_iface.specs.declared.type_errors.TypeMismatch.{TypeMismatch}
-use Rattle.plir_iface.specs.declared.type_errors.TypeFault.{TypeFault}
+use Rattle.plir_iface.specs.declared.type_errors.{OtherKind.OtherKind, TooFew.TooFew as FewValues, TypeFault.TypeFault}
+use Rattle.plir_iface.specs.declared.type_errors.{TypeMismatch.TypeMismatch, TypeRuleErr.TypeRuleErr}
 use Rattle.plir_iface.specs.declared.type_errors.TypeFault.TheVariants.{Few, Wrong}
 use Rattle.plir_iface.specs.declared.type_errors.TypeInterfaceImplsErr.{TypeInterfaceImplsErr}
 use Rattle.plir_iface.specs.declared.type_errors.TypeInterfaceImplsErr.TheVariants.{Operand, Result, Segment}
@@ -45,7 +42,6 @@ use Rattle.plir_iface.specs.declared.type_errors.ResultsMNOfTypeError.TheVariant
 use Rattle.plir_iface.specs.declared.type_errors.ResultsMNOfTypeError.TheVariants.{
   UnexpectedType as UnexpectedResultType,
 }
-use Rattle.plir_iface.specs.declared.type_errors.TypeRuleErr.{TypeRuleErr}
 use Rattle.plir_iface.specs.declared.type_errors.TypeRuleErr.TheVariants.{TooFew, WrongType}
 
 -- the id of the type at an index, and its text
@@ -131,59 +127,58 @@ ReportsRule P Q (Few few) (TooFew e) = P few e
 ReportsRule P Q (Wrong m) (WrongType e) = Q m e
 ReportsRule P Q _ _ = ⊥
 
--- How an operation breaks a rule of types, each word named after its interface: the refusal is at the operation's
--- location.
+-- How an operation breaks a rule of types: the refusal is at the operation's location.
 module _ {K A T : Type 0} (marks : TypeView T → Bool) (name : List ℕ) (own_id : T → List ℕ) (s : ContextView K A T)
     (op : Ptr OperationKind) where
-  abbrev pub IsAllOperandsOfTypeRefusal : (own_body : T → List Part) →
-      VerifyErr AllOperandsOfTypeVerifyErr → Type 0
-  IsAllOperandsOfTypeRefusal own_body = IsRefusalMemoryAside s op
-      (ReportsOtherKind marks name own_id s own_body op Operands ReportsOtherOperand)
+  -- by the first type of a side that is of another kind, or does not implement an interface; or by how they break the
+  -- rule of some indices: an error reports it as R says
+  abbrev pub IsKindRefusal : {E : Type 0} → Side → (R : OtherKind → E → Type 0) (own_body : T → List Part) →
+      VerifyErr E → Type 0
+  IsKindRefusal side R own_body = IsRefusalMemoryAside s op (ReportsOtherKind marks name own_id s own_body op side R)
+
+  abbrev pub IsEachRefusal : Side → VerifyErr TypeInterfaceImplsErr → Type 0
+  IsEachRefusal side = IsRefusal s op (ReportsMisfit marks name own_id s op side ReportsImpls)
+
+  abbrev pub IsPlacesRefusal : {E : Type 0} → Side → Places → (R : TypeFault → E → Type 0) → VerifyErr E → Type 0
+  IsPlacesRefusal side places R = IsRefusal s op (ReportsTypeFault marks name own_id s op side places R)
+
+  -- each word named after its interface
+  abbrev pub IsAllOperandsOfTypeRefusal : (own_body : T → List Part) → VerifyErr AllOperandsOfTypeVerifyErr → Type 0
+  IsAllOperandsOfTypeRefusal = IsKindRefusal Operands ReportsOtherOperand
+
+  abbrev pub IsAllResultsOfTypeRefusal : (own_body : T → List Part) → VerifyErr AllResultsOfTypeVerifyErr → Type 0
+  IsAllResultsOfTypeRefusal = IsKindRefusal Results ReportsOtherResult
 
   abbrev pub IsAllOperandsImplsTyRefusal : VerifyErr TypeInterfaceImplsErr → Type 0
-  IsAllOperandsImplsTyRefusal = IsRefusal s op (ReportsMisfit marks name own_id s op Operands ReportsImpls)
-
-  abbrev pub IsOperandNOfTypeRefusal : (n : ℕ) → VerifyErr (TypeRuleErr NotEnoughOperandsErr OperandNOfTypeError) →
-      Type 0
-  IsOperandNOfTypeRefusal n = IsRefusal s op (ReportsTypeFault marks name own_id s op Operands (At n)
-      (ReportsRule ReportsFewOperands ReportsOperandN))
-
-  abbrev pub IsOperandNImplsTyRefusal : (n : ℕ) → VerifyErr (TypeRuleErr NotEnoughOperandsErr TypeInterfaceImplsErr) →
-      Type 0
-  IsOperandNImplsTyRefusal n = IsRefusal s op (ReportsTypeFault marks name own_id s op Operands (At n)
-      (ReportsRule ReportsFewOperands ReportsImpls))
-
-  abbrev pub IsOperandsMNOfTypeRefusal : (m n : ℕ) → VerifyErr OperandsMNOfTypeError → Type 0
-  IsOperandsMNOfTypeRefusal m n = IsRefusal s op (ReportsTypeFault marks name own_id s op Operands (Within m (signed n))
-      ReportsOperandsMN)
-
-  abbrev pub IsOperandsMNImplsTyRefusal : (m n : ℕ) → VerifyErr
-      (TypeRuleErr NotEnoughOperandsErr TypeInterfaceImplsErr) → Type 0
-  IsOperandsMNImplsTyRefusal m n = IsRefusal s op (ReportsTypeFault marks name own_id s op Operands
-      (Within m (signed n)) (ReportsRule ReportsFewOperands ReportsImpls))
-
-  abbrev pub IsAllResultsOfTypeRefusal : (own_body : T → List Part) →
-      VerifyErr AllResultsOfTypeVerifyErr → Type 0
-  IsAllResultsOfTypeRefusal own_body = IsRefusalMemoryAside s op
-      (ReportsOtherKind marks name own_id s own_body op Results ReportsOtherResult)
+  IsAllOperandsImplsTyRefusal = IsEachRefusal Operands
 
   abbrev pub IsAllResultsImplsTyRefusal : VerifyErr TypeInterfaceImplsErr → Type 0
-  IsAllResultsImplsTyRefusal = IsRefusal s op (ReportsMisfit marks name own_id s op Results ReportsImpls)
+  IsAllResultsImplsTyRefusal = IsEachRefusal Results
 
-  abbrev pub IsResultNOfTypeRefusal : (n : ℕ) → VerifyErr (TypeRuleErr NotEnoughResultsErr ResultNOfTypeError) → Type 0
-  IsResultNOfTypeRefusal n = IsRefusal s op (ReportsTypeFault marks name own_id s op Results (At n)
-      (ReportsRule ReportsFewResults ReportsResultN))
+  abbrev pub IsOperandNOfTypeRefusal : ℕ → VerifyErr (TypeRuleErr NotEnoughOperandsErr OperandNOfTypeError) → Type 0
+  IsOperandNOfTypeRefusal n = IsPlacesRefusal Operands (At n) (ReportsRule ReportsFewOperands ReportsOperandN)
 
-  abbrev pub IsResultNImplsTyRefusal : (n : ℕ) → VerifyErr (TypeRuleErr NotEnoughResultsErr TypeInterfaceImplsErr) →
-      Type 0
-  IsResultNImplsTyRefusal n = IsRefusal s op (ReportsTypeFault marks name own_id s op Results (At n)
-      (ReportsRule ReportsFewResults ReportsImpls))
+  abbrev pub IsResultNOfTypeRefusal : ℕ → VerifyErr (TypeRuleErr NotEnoughResultsErr ResultNOfTypeError) → Type 0
+  IsResultNOfTypeRefusal n = IsPlacesRefusal Results (At n) (ReportsRule ReportsFewResults ReportsResultN)
+
+  abbrev pub IsOperandNImplsTyRefusal : ℕ → VerifyErr (TypeRuleErr NotEnoughOperandsErr TypeInterfaceImplsErr) → Type 0
+  IsOperandNImplsTyRefusal n = IsPlacesRefusal Operands (At n) (ReportsRule ReportsFewOperands ReportsImpls)
+
+  abbrev pub IsResultNImplsTyRefusal : ℕ → VerifyErr (TypeRuleErr NotEnoughResultsErr TypeInterfaceImplsErr) → Type 0
+  IsResultNImplsTyRefusal n = IsPlacesRefusal Results (At n) (ReportsRule ReportsFewResults ReportsImpls)
+
+  abbrev pub IsOperandsMNOfTypeRefusal : (m n : ℕ) → VerifyErr OperandsMNOfTypeError → Type 0
+  IsOperandsMNOfTypeRefusal m n = IsPlacesRefusal Operands (Within m (signed n)) ReportsOperandsMN
 
   abbrev pub IsResultsMNOfTypeRefusal : (m n : ℕ) → VerifyErr ResultsMNOfTypeError → Type 0
-  IsResultsMNOfTypeRefusal m n = IsRefusal s op (ReportsTypeFault marks name own_id s op Results (Within m (signed n))
-      ReportsResultsMN)
+  IsResultsMNOfTypeRefusal m n = IsPlacesRefusal Results (Within m (signed n)) ReportsResultsMN
+
+  abbrev pub IsOperandsMNImplsTyRefusal : (m n : ℕ) →
+      VerifyErr (TypeRuleErr NotEnoughOperandsErr TypeInterfaceImplsErr) → Type 0
+  IsOperandsMNImplsTyRefusal m n = IsPlacesRefusal Operands (Within m (signed n))
+      (ReportsRule ReportsFewOperands ReportsImpls)
 
   abbrev pub IsResultsMNImplsTyRefusal : (m n : ℕ) → VerifyErr (TypeRuleErr NotEnoughResultsErr TypeInterfaceImplsErr) →
       Type 0
-  IsResultsMNImplsTyRefusal m n = IsRefusal s op (ReportsTypeFault marks name own_id s op Results (Within m (signed n))
-      (ReportsRule ReportsFewResults ReportsImpls))
+  IsResultsMNImplsTyRefusal m n = IsPlacesRefusal Results (Within m (signed n))
+      (ReportsRule ReportsFewResults ReportsImpls)

@@ -20,7 +20,6 @@ mod same_types;
 mod side;
 mod type_errors;
 mod type_tests;
-mod values;
 mod verdict;
 
 pub use blocks::{SingleBlockRegionInterface, SingleBlockRegionVerifyErr};

@@ -40,12 +40,7 @@ pub trait AllOperandsOfType<D: OpSet, T: TypeMark<D>>: Op<D> {
             (Self.pointer self.now) D.type_body_text) }
         ensures whole { IsWellFormed D.attr_handles ctx.now }
     {
-        verify_each_kind::<D, T, AllOperandsOfTypeVerifyErr>(
-            alloc,
-            ctx,
-            self.get_operation(),
-            Side::Operands,
-        )
+        verify_each_kind::<D, T, _>(alloc, ctx, self.get_operation(), Side::Operands)
     }
 }
 
@@ -59,11 +54,7 @@ pub trait AllOperandsImplsTy<D: OpSet, I: TypeInterfaceMark<D>>: Op<D> {
             (Self.pointer self.now)) }
         ensures whole { IsWellFormed D.attr_handles ctx.now }
     {
-        verify_each::<D, Implementing<I>, TypeInterfaceImplsErr>(
-            ctx,
-            self.get_operation(),
-            Side::Operands,
-        )
+        verify_each::<D, Implementing<I>, _>(ctx, self.get_operation(), Side::Operands)
     }
 }
 
@@ -81,12 +72,7 @@ pub trait OperandNOfType<D: OpSet, const N: usize, T: TypeMark<D>>: Op<D> {
             N) }
         ensures whole { IsWellFormed D.attr_handles ctx.now }
     {
-        verify_at::<D, OfType<T>, TypeRuleErr<NotEnoughOperandsErr, OperandNOfTypeError>>(
-            ctx,
-            self.get_operation(),
-            Side::Operands,
-            Places::At(N),
-        )
+        verify_at::<D, OfType<T>, _>(ctx, self.get_operation(), Side::Operands, Places::At(N))
     }
 }
 
@@ -104,12 +90,7 @@ pub trait OperandNImplsTy<D: OpSet, const N: usize, I: TypeInterfaceMark<D>>: Op
             (Self.pointer self.now) N) }
         ensures whole { IsWellFormed D.attr_handles ctx.now }
     {
-        verify_at::<D, Implementing<I>, TypeRuleErr<NotEnoughOperandsErr, TypeInterfaceImplsErr>>(
-            ctx,
-            self.get_operation(),
-            Side::Operands,
-            Places::At(N),
-        )
+        verify_at::<D, Implementing<I>, _>(ctx, self.get_operation(), Side::Operands, Places::At(N))
     }
 }
 
@@ -127,12 +108,8 @@ pub trait OperandsMNOfType<D: OpSet, const M: u32, const N: u32, T: TypeMark<D>>
             (Self.pointer self.now) M N) }
         ensures whole { IsWellFormed D.attr_handles ctx.now }
     {
-        verify_at::<D, OfType<T>, OperandsMNOfTypeError>(
-            ctx,
-            self.get_operation(),
-            Side::Operands,
-            Places::within(M, N),
-        )
+        let places = Places::within(M, N);
+        verify_at::<D, OfType<T>, _>(ctx, self.get_operation(), Side::Operands, places)
     }
 }
 
@@ -153,11 +130,7 @@ pub trait OperandsMNImplsTy<D: OpSet, const M: u32, const N: u32, I: TypeInterfa
             (Self.pointer self.now) M N) }
         ensures whole { IsWellFormed D.attr_handles ctx.now }
     {
-        verify_at::<D, Implementing<I>, TypeRuleErr<NotEnoughOperandsErr, TypeInterfaceImplsErr>>(
-            ctx,
-            self.get_operation(),
-            Side::Operands,
-            Places::within(M, N),
-        )
+        let places = Places::within(M, N);
+        verify_at::<D, Implementing<I>, _>(ctx, self.get_operation(), Side::Operands, places)
     }
 }

@@ -12,7 +12,6 @@ use crate::counts::{
     AtLeastNOpdsVerifyErr, AtMostNOpdsVerifyErr, NOpdsVerifyErr, NotEnoughOperandsErr,
 };
 use crate::op::Op;
-use crate::values::{operand_at, type_of};
 use crate::verdict::accept_if;
 use plir_core::{Context, LessThanN, Operation, Ptr, Value};
 use plir_data::{OpSet, TypeHandle, VerifyErr};
@@ -39,7 +38,7 @@ pub trait NOpdsInterface<D: OpSet, const N: usize>: Op<D> {
         ensures live { IsValueLive ctx.now result }
         ensures whole { IsWellFormed D.attr_handles ctx.now }
     {
-        operand_at(ctx, self.get_operation(), i.i())
+        self.get_operation().get_operand(ctx, i.i())
     }
 
     /// The type of the operand at an index.
@@ -50,7 +49,7 @@ pub trait NOpdsInterface<D: OpSet, const N: usize>: Op<D> {
         ensures live { IsTypeLive ctx.now.types result }
         ensures whole { IsWellFormed D.attr_handles ctx.now }
     {
-        type_of(ctx, operand_at(ctx, self.get_operation(), i.i()))
+        self.get_operation().get_operand(ctx, i.i()).get_type(ctx)
     }
 }
 
@@ -95,7 +94,7 @@ pub trait OptionalOpdInterface<D: OpSet>: Op<D> {
         if op.get_num_operands(ctx) != 1 {
             return None;
         }
-        Some(operand_at(ctx, op, 0))
+        Some(op.get_operand(ctx, 0))
     }
 }
 
@@ -136,7 +135,7 @@ pub trait OneOpdInterface<D: OpSet>: Op<D> {
         ensures live { IsValueLive ctx.now result }
         ensures whole { IsWellFormed D.attr_handles ctx.now }
     {
-        operand_at(ctx, self.get_operation(), 0)
+        self.get_operation().get_operand(ctx, 0)
     }
 
     /// The type of the operand.
@@ -147,7 +146,7 @@ pub trait OneOpdInterface<D: OpSet>: Op<D> {
         ensures live { IsTypeLive ctx.now.types result }
         ensures whole { IsWellFormed D.attr_handles ctx.now }
     {
-        type_of(ctx, operand_at(ctx, self.get_operation(), 0))
+        self.get_operation().get_operand(ctx, 0).get_type(ctx)
     }
 }
 
@@ -166,5 +165,5 @@ pub fn verify_get_operand_n<D: OpSet, const N: usize>(
 {
     let found = op.get_num_operands(ctx);
     accept_if(ctx, op, N < found, NotEnoughOperandsErr(found, N + 1))?;
-    Ok(operand_at(ctx, op, N))
+    Ok(op.get_operand(ctx, N))
 }

@@ -40,12 +40,7 @@ pub trait AllResultsOfType<D: OpSet, T: TypeMark<D>>: Op<D> {
             (Self.pointer self.now) D.type_body_text) }
         ensures whole { IsWellFormed D.attr_handles ctx.now }
     {
-        verify_each_kind::<D, T, AllResultsOfTypeVerifyErr>(
-            alloc,
-            ctx,
-            self.get_operation(),
-            Side::Results,
-        )
+        verify_each_kind::<D, T, _>(alloc, ctx, self.get_operation(), Side::Results)
     }
 }
 
@@ -59,11 +54,7 @@ pub trait AllResultsImplsTy<D: OpSet, I: TypeInterfaceMark<D>>: Op<D> {
             (Self.pointer self.now)) }
         ensures whole { IsWellFormed D.attr_handles ctx.now }
     {
-        verify_each::<D, Implementing<I>, TypeInterfaceImplsErr>(
-            ctx,
-            self.get_operation(),
-            Side::Results,
-        )
+        verify_each::<D, Implementing<I>, _>(ctx, self.get_operation(), Side::Results)
     }
 }
 
@@ -81,12 +72,7 @@ pub trait ResultNOfType<D: OpSet, const N: usize, T: TypeMark<D>>: Op<D> {
             (Self.pointer self.now) N) }
         ensures whole { IsWellFormed D.attr_handles ctx.now }
     {
-        verify_at::<D, OfType<T>, TypeRuleErr<NotEnoughResultsErr, ResultNOfTypeError>>(
-            ctx,
-            self.get_operation(),
-            Side::Results,
-            Places::At(N),
-        )
+        verify_at::<D, OfType<T>, _>(ctx, self.get_operation(), Side::Results, Places::At(N))
     }
 }
 
@@ -104,12 +90,7 @@ pub trait ResultNImplsTy<D: OpSet, const N: usize, I: TypeInterfaceMark<D>>: Op<
             N) }
         ensures whole { IsWellFormed D.attr_handles ctx.now }
     {
-        verify_at::<D, Implementing<I>, TypeRuleErr<NotEnoughResultsErr, TypeInterfaceImplsErr>>(
-            ctx,
-            self.get_operation(),
-            Side::Results,
-            Places::At(N),
-        )
+        verify_at::<D, Implementing<I>, _>(ctx, self.get_operation(), Side::Results, Places::At(N))
     }
 }
 
@@ -126,12 +107,8 @@ pub trait ResultsMNOfType<D: OpSet, const M: u32, const N: u32, T: TypeMark<D>>:
             (Self.pointer self.now) M N) }
         ensures whole { IsWellFormed D.attr_handles ctx.now }
     {
-        verify_at::<D, OfType<T>, ResultsMNOfTypeError>(
-            ctx,
-            self.get_operation(),
-            Side::Results,
-            Places::within(M, N),
-        )
+        let places = Places::within(M, N);
+        verify_at::<D, OfType<T>, _>(ctx, self.get_operation(), Side::Results, places)
     }
 }
 
@@ -151,11 +128,7 @@ pub trait ResultsMNImplsTy<D: OpSet, const M: u32, const N: u32, I: TypeInterfac
             (Self.pointer self.now) M N) }
         ensures whole { IsWellFormed D.attr_handles ctx.now }
     {
-        verify_at::<D, Implementing<I>, TypeRuleErr<NotEnoughResultsErr, TypeInterfaceImplsErr>>(
-            ctx,
-            self.get_operation(),
-            Side::Results,
-            Places::within(M, N),
-        )
+        let places = Places::within(M, N);
+        verify_at::<D, Implementing<I>, _>(ctx, self.get_operation(), Side::Results, places)
     }
 }

@@ -5,7 +5,6 @@ ghost use Rattle.plir_core.specs.declared.ptr.IRNode.{IRNode};
 ghost use Rattle.plir_core.specs.ContextView.{IsLive};
 ghost use Rattle.plir_core.specs.WellFormed.{IsWellFormed};
 
-use crate::values::{operand_at, result_type_at, type_of};
 use plir_core::{Context, Operation, Ptr};
 use plir_data::{OpSet, TypeHandle};
 
@@ -42,8 +41,8 @@ impl Side {
         ensures whole { IsWellFormed D.attr_handles ctx.now }
     {
         match self {
-            Side::Operands => type_of(ctx, operand_at(ctx, op, i)),
-            Side::Results => result_type_at(ctx, op, i),
+            Side::Operands => op.get_operand(ctx, i).get_type(ctx),
+            Side::Results => op.get_type(ctx, i),
         }
     }
 

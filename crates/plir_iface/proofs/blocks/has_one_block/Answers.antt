@@ -1,12 +1,13 @@
 use Rattle.std.proofs.Common.{◌≡◌, true, false, sym, ap, ◌∙◌}
 use Rattle.std.specs.Prelude.{option_map}
 use Rattle.plir_core.specs.declared.ptr.IRNode.TheVariants.{BasicBlock}
-use Rattle.plir_iface.proofs.Ends.{no-last-block, one-block, same-ptr, through}
+use Rattle.std.proofs.Math.Logic.Iff
+use Rattle.plir_iface.proofs.Ends.{no-last-block, one-block, same-ptr}
 use Rattle.plir_iface.proofs.blocks.has_one_block.Goals as goal
 
 pub returns-clause-value : goal.returns-clause-value
 returns-clause-value g c =
-    through (same-ptr c.in-Some.first c.in-Some-get_tail.last c.eq.result c.eq.ensures)
+    Iff.trans (same-ptr c.in-Some.first c.in-Some-get_tail.last c.eq.result c.eq.ensures)
     (one-block c.args.ctx.now.nodes c.get_head.ensures.whole.stored c.args.region c.requires c.in-Some.first
     c.in-Some-get_tail.last
     (sym (ap (option_map BasicBlock) c.in-Some.is) ∙ c.get_head.ensures.value)

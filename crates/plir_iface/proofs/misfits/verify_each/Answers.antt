@@ -1,4 +1,5 @@
-use Rattle.plir_iface.proofs.Refusals.{refusal-weaker, first-of-all}
+use Rattle.plir_iface.specs.VerdictLaws.{refusal-weaker}
+use Rattle.plir_iface.proofs.FirstFailing.{first-of-all}
 use Rattle.plir_iface.proofs.misfits.verify_each.Goals as goal
 
 pub returns-in-Some-clause-refused : goal.returns-in-Some-clause-refused

@@ -1,4 +1,5 @@
-use Rattle.plir_iface.proofs.Refusals.{refusal-aside, first-of-all}
+use Rattle.plir_iface.specs.VerdictLaws.{refusal-aside}
+use Rattle.plir_iface.proofs.FirstFailing.{first-of-all}
 use Rattle.plir_iface.proofs.misfits.verify_each_kind.Goals as goal
 
 pub returns-clause-refused : goal.returns-clause-refused
