@@ -15,7 +15,7 @@ use Rattle.plir_core.specs.Grown.{Growth}
 use Rattle.plir_core.specs.Made.{IsMade}
 use Rattle.plir_core.specs.Nodes.{Nodes, is_node_live, node_children, node_parent}
 use Rattle.plir_core.specs.Placed.{MovesOnly, IsPlacedLast}
-use Rattle.plir_copies.specs.Images.{Images, AreImagesLive, no_images, over}
+use Rattle.plir_copies.specs.Images.{Images, AreImagesLive, no_images}
 use Rattle.plir_copies.specs.Copied.{bare_under}
 use Rattle.plir_copies.specs.Twins.{IsAddedLast}
 
@@ -58,7 +58,7 @@ uncalled (CallSite line column call_line call_column) = refl
 
 -- where nothing stands in place of anything, a copy holds the same
 module _ {K A : Type 0} where
-  bare-none : (x : Option (OpView K A)) → option_map (bare_under (over no_images no_images)) x ≡ x
+  bare-none : (x : Option (OpView K A)) → option_map (bare_under no_images) x ≡ x
   bare-none None = refl
   bare-none (Some o) =
       λ i. let r : OpView K A = record o {
@@ -66,11 +66,11 @@ module _ {K A : Type 0} where
         location = uncalled o.location i;
       } in Some r
 
-  pub bare-same : (m : Images) → m ≡ no_images → (x : Option (OpView K A)) → option_map (bare_under (over m m)) x ≡ x
-  bare-same m e x = ap (λ n. option_map (bare_under (over n n)) x) e ∙ bare-none x
+  pub bare-same : (m : Images) → m ≡ no_images → (x : Option (OpView K A)) → option_map (bare_under m) x ≡ x
+  bare-same m e x = ap (λ n. option_map (bare_under n) x) e ∙ bare-none x
 
-pub none-live : {K A T : Type 0} (s : ContextView K A T) (m : Images) → m ≡ no_images → AreImagesLive s (over m m)
-none-live s m e = subst (λ n. AreImagesLive s (over n n)) (sym e) (record {
+pub none-live : {K A T : Type 0} (s : ContextView K A T) (m : Images) → m ≡ no_images → AreImagesLive s m
+none-live s m e = subst (AreImagesLive s) (sym e) (record {
   values = λ v w h. absurd (none-some w h);
   blocks = λ b c h. absurd (none-some c h);
 })

@@ -1,7 +1,9 @@
 -- What a map holds behind the copy of a tree.
-use Rattle.std.proofs.Common.{◌≡◌, ◌∙◌, Bool, true, false, true≢false, ◌&&◌, nat_lt, List, length}
+use Rattle.std.proofs.Common.{◌≡◌, ◌∙◌, true, nat_lt, List, length}
 use Rattle.std.proofs.Common.{Some, refl, sym, ap, subst}
 use Rattle.std.specs.Option.{option_or}
+use Rattle.std.specs.Cmp.{first_so, second_so}
+use Rattle.std.proofs.lemmas.Bool.{and_from}
 use Rattle.plir_core.specs.declared.ptr.Ptr.{Ptr}
 use Rattle.plir_core.specs.declared.ptr.BasicBlock.{BasicBlock as BlockKind}
 use Rattle.plir_core.specs.declared.ptr.IRNode.{IRNode}
@@ -17,17 +19,6 @@ use Rattle.plir_copies.specs.Trees.{node_copy, value_copy, entity_copy, HoldsCop
 use Rattle.plir_copies.specs.Twins.{AreOfOneKind, with_twins}
 use Rattle.plir_copies.proofs.Mapped.{other-values, other-blocks, put-values, put-blocks}
 use Rattle.plir_copies.proofs.Whole.{IsWholeCopy, copies_in, listed, kinds, has-become}
-
-left : (a b : Bool) → (a && b) ≡ true → a ≡ true
-left true b e = refl
-left false b e = e
-
-right : (a b : Bool) → (a && b) ≡ true → b ≡ true
-right true b e = e
-right false b e = absurd (true≢false (sym e))
-
-both : (a b : Bool) → a ≡ true → b ≡ true → (a && b) ≡ true
-both a b p q = rw (p, q) refl
 
 module _ {K A T : Type 0} (s t : ContextView K A T) (root copy : IRNode) (ws : List Twin)
     (h : IsWholeCopy s t root copy ws) where
@@ -47,8 +38,8 @@ module _ {K A T : Type 0} (s t : ContextView K A T) (root copy : IRNode) (ws : L
       let become = has-become s t root copy ws h w.0 w.1.0 in
       let copy_is : w.0.copy ≡ entity_node (entity_copy (copies_in ws) v.entity) =
       sym become ∙ ap (node_copy (copies_in ws)) w.1.1 ∙ entity-become v.entity in
-      let live = left (is_live s (entity_node v.entity)) (nat_lt v.index (length (types_from s v.entity))) l in
-      let there = right (is_live s (entity_node v.entity)) (nat_lt v.index (length (types_from s v.entity))) l in
+      let live = first_so (is_live s (entity_node v.entity)) (nat_lt v.index (length (types_from s v.entity))) l in
+      let there = second_so (is_live s (entity_node v.entity)) (nat_lt v.index (length (types_from s v.entity))) l in
       let kind : AreOfOneKind (entity_node v.entity) (entity_node (entity_copy (copies_in ws) v.entity)) =
       subst (λ x. AreOfOneKind x (entity_node (entity_copy (copies_in ws) v.entity))) w.1.1
       (subst (AreOfOneKind w.0.node) copy_is (kinds s t root copy ws h w.0 w.1.0)) in
@@ -70,7 +61,7 @@ module _ {K A T : Type 0} (s t : ContextView K A T) (root copy : IRNode) (ws : L
     other_values = λ v n. ap (λ z. z.value v) e ∙ ap (λ o. option_or o (m.value v)) (other-values t ws no_images v
         (λ w k same l. n (subst (IsAncestor s root) (sym same) (h.below w k))
         (let live : is_live s (entity_node v.entity) ≡ true = ap (is_live s) same ∙ (h.each w k).live in
-        both (is_live s (entity_node v.entity)) (nat_lt v.index (length (types_from s v.entity))) live
+        and_from (is_live s (entity_node v.entity)) (nat_lt v.index (length (types_from s v.entity))) live
         (subst (λ ts. nat_lt v.index (length ts) ≡ true) (same-types v.entity live) l))));
     other_blocks = λ b n. ap (λ z. z.block b) e ∙ ap (λ o. option_or o (m.block b)) (other-blocks t ws no_images b
         (λ w k same. n (subst (IsAncestor s root) (sym same) (h.below w k))));

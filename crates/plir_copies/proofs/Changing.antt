@@ -8,9 +8,8 @@ use Rattle.plir_store.specs.MemberLaws.{Has-append_left, Has-append_right, Has-a
 use Rattle.plir_core.specs.declared.ptr.Ptr.{Ptr}
 use Rattle.plir_core.specs.declared.ptr.Operation.{Operation as OperationKind}
 use Rattle.plir_core.specs.declared.ptr.BasicBlock.{BasicBlock as BlockKind}
-use Rattle.plir_core.specs.declared.ptr.Region.{Region as RegionKind}
 use Rattle.plir_core.specs.declared.ptr.IRNode.{IRNode}
-use Rattle.plir_core.specs.declared.ptr.IRNode.TheVariants.{Operation, Region, BasicBlock}
+use Rattle.plir_core.specs.declared.ptr.IRNode.TheVariants.{Operation}
 use Rattle.plir_core.specs.Contents.{OpView}
 use Rattle.plir_core.specs.ContextView.{ContextView, IsLive, op_at, operands_in, successors_in}
 use Rattle.plir_core.specs.declared.value.Value.{Value}
@@ -19,6 +18,7 @@ use Rattle.plir_core.specs.Room.{no_node, HaveCome}
 use Rattle.plir_core.specs.RoomLaws.{come_itself, come_still}
 use Rattle.plir_copies.specs.Images.{Images, value_in, block_in, blocks_in}
 use Rattle.plir_copies.specs.Copied.{located_in, op_under, with_operands_in, with_successors_in}
+use Rattle.plir_copies.specs.Staying.{keeps_same, keeps_both}
 use Rattle.plir_copies.specs.Twins.{AreChanged}
 use Rattle.plir_copies.proofs.Edits.{front, front-next, front-all, half_set}
 
@@ -87,37 +87,11 @@ module _ {K A : Type 0} (m : Images) where
 module _ {K A T : Type 0} (m : Images) where
   pub changed-none : (s : ContextView K A T) → AreChanged s s m []
   changed-none s = record {
-    keeps = record {
-      live = λ n. refl;
-      given = λ n. refl;
-      children = λ n. refl;
-      parents = λ n. refl;
-      types = refl;
-      limit = refl;
-    };
+    keeps = keeps_same s;
     none_come = come_itself s.nodes;
     ops = λ p h. absurd h;
     others = λ p l n. refl;
     blocks = λ b. refl;
-  }
-
-  -- a node that is no operation
-  pub changed-block : (s : ContextView K A T) (b : Ptr BlockKind) → AreChanged s s m (BasicBlock b ∷ [])
-  changed-block s b = record {
-    keeps = (changed-none s).keeps;
-    none_come = come_itself s.nodes;
-    ops = λ p h. elim h [ inl e ↦ absurd (let f : ⊥ = cc in f) | inr z ↦ absurd z ];
-    others = λ p l n. refl;
-    blocks = λ x. refl;
-  }
-
-  pub changed-region : (s : ContextView K A T) (r : Ptr RegionKind) → AreChanged s s m (Region r ∷ [])
-  changed-region s r = record {
-    keeps = (changed-none s).keeps;
-    none_come = come_itself s.nodes;
-    ops = λ p h. elim h [ inl e ↦ absurd (let f : ⊥ = cc in f) | inr z ↦ absurd z ];
-    others = λ p l n. refl;
-    blocks = λ x. refl;
   }
 
   -- an operation
@@ -125,14 +99,7 @@ module _ {K A T : Type 0} (m : Images) where
       → IsOpEdited t u q (with_successors_in m) → IsOpEdited u v q (located_in m) → HaveCome s.nodes v.nodes no_node
       → AreChanged s v m (Operation q ∷ [])
   changed-op s t u v q d e f come = record {
-    keeps = record {
-      live = λ n. f.keeps.live n ∙ e.keeps.live n ∙ d.keeps.live n;
-      given = λ n. f.keeps.given n ∙ e.keeps.given n ∙ d.keeps.given n;
-      children = λ n. f.keeps.children n ∙ e.keeps.children n ∙ d.keeps.children n;
-      parents = λ n. f.keeps.parents n ∙ e.keeps.parents n ∙ d.keeps.parents n;
-      types = f.keeps.types ∙ e.keeps.types ∙ d.keeps.types;
-      limit = f.keeps.limit ∙ e.keeps.limit ∙ d.keeps.limit;
-    };
+    keeps = keeps_both s u v (keeps_both s t u d.keeps e.keeps) f.keeps;
     none_come = come;
     ops = λ p h. elim h [
       | inl x ↦ (let is : q ≡ p = cc in subst (λ z. op_at v z ≡ option_map (op_under m) (op_at s z)) is
@@ -152,14 +119,7 @@ module _ {K A T : Type 0} (m : Images) where
       → AreChanged t u m (n ∷ []) → ((x : IRNode) → Has ns x → IsLive s x) → IsLive s n → (Has ns n → ⊥)
       → AreChanged s u m (ns ++ n ∷ [])
   changed-both s t u ns n d e all live fresh = record {
-    keeps = record {
-      live = λ x. e.keeps.live x ∙ d.keeps.live x;
-      given = λ x. e.keeps.given x ∙ d.keeps.given x;
-      children = λ x. e.keeps.children x ∙ d.keeps.children x;
-      parents = λ x. e.keeps.parents x ∙ d.keeps.parents x;
-      types = e.keeps.types ∙ d.keeps.types;
-      limit = e.keeps.limit ∙ d.keeps.limit;
-    };
+    keeps = keeps_both s t u d.keeps e.keeps;
     none_come = come_still s.nodes t.nodes u.nodes no_node d.none_come e.none_come;
     ops = λ p k. elim (Has-append_cases ns (n ∷ []) (Operation p) k) [
       | inl a ↦ e.others p (d.keeps.live (Operation p) ∙ all (Operation p) a) (λ h. elim h [

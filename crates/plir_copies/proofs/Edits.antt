@@ -16,9 +16,6 @@ module _ {X : Type 0} (f : X → X) where
   abbrev pub front : List X → ℕ → List X → List X
   front xs i zs = map f (take i xs) ++ drop i zs
 
-  front-none : (xs zs : List X) → front xs 0 zs ≡ zs
-  front-none xs zs = refl
-
   one_more : (i : ℕ) → suc i + 1 ≡ suc (i + 1)
   one_more i = omega arith
 
@@ -75,10 +72,6 @@ module _ {K A : Type 0} (m : Images) where
   pub bare-results : (x : Option (OpView K A)) → results_in (option_map (bare_under m) x) ≡ results_in x
   bare-results None = refl
   bare-results (Some o) = refl
-
-  pub bare-operands : (x : Option (OpView K A)) → operands_in (option_map (bare_under m) x) ≡ operands_in x
-  bare-operands None = refl
-  bare-operands (Some o) = refl
 
   -- operands after successors and the location
   pub bare-whole : (n : Images) → n.block ≡ m.block → n.call ≡ m.call → (x : Option (OpView K A))

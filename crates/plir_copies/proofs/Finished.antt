@@ -46,6 +46,12 @@ module _ {K A T : Type 0} (s : ContextView K A T) (root : IRNode) where
       (Distinct-one root) (λ n h. elim h [ inl e ↦ subst (IsAncestor s root) e (0, refl) | inr z ↦ absurd z ]))
       (subst (IsFullFor s.nodes) (sym (count_one root)) full)
 
+-- The tree under a root has been copied, and a map has become n that was m.
+pub record IsCloned {K A T : Type 0} (s u : ContextView K A T) (root copy : IRNode) (m n : Images) : Type 0 where
+  pub made : IsMade s.nodes u.nodes copy
+  pub come : HaveCome s.nodes u.nodes (tree_count s.nodes root)
+  pub copied : IsCopyOfTree s u root copy m n
+
 module _ {K A T : Type 0} (s t : ContextView K A T) (root copy : IRNode) where
   -- the root alone has been copied
   pub begun : Growth s.nodes → IsForest (look s) → IsMeasured s → IsMade s.nodes t.nodes copy → t.types ≡ s.types
@@ -97,19 +103,16 @@ module _ {K A T : Type 0} (s t : ContextView K A T) (root copy : IRNode) where
         (live-all t ws no_images (record { values = λ v x i. absurd (none-some x i); blocks = λ b x i. absurd (none-some x i) })
         copy-live holds-same) (images-keep s t m h.made.keeps l))
 
-    module _ (u : ContextView K A T) (m n : Images) (e : n ≡ over (with_twins t no_images ws) m)
-        (changed : AreChanged t u n (copies_of ws)) where
-      pub made-whole : IsMade s.nodes u.nodes copy
-      made-whole = made-changed s t root copy ws w u n changed
-
-      pub come-whole : HaveCome s.nodes u.nodes (tree_count s.nodes root)
-      come-whole =
-          come_still s.nodes t.nodes u.nodes (tree_count s.nodes root) (tree-come s t root copy ws w) changed.none_come
-
-      pub copied-whole : IsCopyOfTree s u root copy m n
-      copied-whole = record {
+    -- what is left once the operations of the copy are changed
+    pub cloned : (u : ContextView K A T) (m n : Images) → n ≡ over (with_twins t no_images ws) m
+        → AreChanged t u n (copies_of ws) → IsCloned s u root copy m n
+    cloned u m n e changed = record {
+      made = made-changed s t root copy ws w u n changed;
+      come = come_still s.nodes t.nodes u.nodes (tree_count s.nodes root) (tree-come s t root copy ws w) changed.none_come;
+      copied = record {
         copies = copies_in ws;
         top = has-become s t root copy ws w (record { node = root; copy = copy }) w.first;
         tree = tree-copied s t root copy ws w u n changed;
         mapped = holds-copies s t root copy ws w m n e;
-      }
+      };
+    }

@@ -1,8 +1,9 @@
 -- What stands in place of what is live.
-use Rattle.std.proofs.Common.{◌≡◌, ◌∙◌, ℕ, Bool, true, false, true≢false, cond, ◌&&◌, nat_lt, length, Option, Some}
+use Rattle.std.proofs.Common.{◌≡◌, ◌∙◌, ℕ, Bool, true, false, cond, nat_lt, length, Option, Some}
 use Rattle.std.proofs.Common.{None, refl, sym, ap, subst}
 use Rattle.std.proofs.lemmas.Option.{same_Some}
 use Rattle.std.specs.Option.{unwrap_or}
+use Rattle.std.specs.Cmp.{second_so}
 use Rattle.plir_core.specs.declared.ptr.Ptr.{Ptr}
 use Rattle.plir_core.specs.declared.ptr.BasicBlock.{BasicBlock as BlockKind}
 use Rattle.plir_core.specs.declared.ptr.IRNode.TheVariants.{BasicBlock}
@@ -12,10 +13,6 @@ use Rattle.plir_core.specs.SameValue.{same_entity, same_ptr, same_value}
 use Rattle.plir_core.specs.ContextView.{ContextView, IsLive, IsValueLive, entity_node, types_from}
 use Rattle.plir_copies.specs.Images.{Images, AreImagesLive, block_in, value_in, with_block, with_value}
 use Rattle.plir_copies.specs.Copied.{is_among_first, value_at, with_values_of}
-
-right : (a b : Bool) → (a && b) ≡ true → b ≡ true
-right true b e = e
-right false b e = absurd (true≢false (sym e))
 
 module _ {K A T : Type 0} (s : ContextView K A T) (m : Images) (h : AreImagesLive s m) where
   pub block-live : (b : Ptr BlockKind) → IsLive s (BasicBlock b) → IsLive s (BasicBlock (block_in m b))
@@ -55,7 +52,7 @@ module _ {K A T : Type 0} (s : ContextView K A T) (m : Images) (h : AreImagesLiv
       within : (x : Value) → is_among_first e n x ≡ true → IsValueLive s (value_at f x.index)
       within x i =
           let here : nat_lt x.index (length (types_from s f)) ≡ true =
-          ap (nat_lt x.index) (sym is) ∙ right (same_entity e x.entity) (nat_lt x.index n) i in
+          ap (nat_lt x.index) (sym is) ∙ second_so (same_entity e x.entity) (nat_lt x.index n) i in
           rw (l, here) refl
 
       go : (x : Value) (b : Bool) → is_among_first e n x ≡ b → (y : Value)

@@ -1,6 +1,8 @@
 -- What stays where nodes are made, edited, or erased again.
-use Rattle.std.proofs.Common.{◌≡◌, ℕ, Bool, true, false, true≢false, ◌&&◌, nat_lt, length, Option, Some, None}
-use Rattle.std.proofs.Common.{◌⊎◌, inl, inr, refl, sym, ap, subst, ◌∙◌, option_map}
+use Rattle.std.proofs.Common.{◌≡◌, ℕ, true, false, true≢false, ◌&&◌, nat_lt, length, Option, Some, None}
+use Rattle.std.proofs.Common.{inl, inr, refl, sym, ap, subst, ◌∙◌, option_map}
+use Rattle.std.specs.Cmp.{first_so, second_so}
+use Rattle.std.proofs.lemmas.Bool.{and_from}
 use Rattle.plir_core.specs.declared.ptr.Ptr.{Ptr}
 use Rattle.plir_core.specs.declared.ptr.Operation.{Operation as OperationKind}
 use Rattle.plir_core.specs.declared.ptr.BasicBlock.{BasicBlock as BlockKind}
@@ -11,36 +13,15 @@ use Rattle.plir_core.specs.declared.value.DefiningEntity.{DefiningEntity}
 use Rattle.plir_core.specs.declared.value.DefiningEntity.TheVariants.{Op, Block}
 use Rattle.plir_core.specs.Above.{Reaches}
 use Rattle.plir_core.specs.Changes.{SameLive}
-use Rattle.plir_core.specs.Contents.{OpView}
-use Rattle.plir_core.specs.ContextView.{ContextView, IsLive, IsValueLive, is_live, op_at, parent_of}
+use Rattle.plir_core.specs.Contents.{OpView, BlockView}
+use Rattle.plir_core.specs.ContextView.{ContextView, IsLive, IsValueLive, is_live, op_at, block_at, parent_of}
 use Rattle.plir_core.specs.ContextView.{entity_node, types_from, results_in, arguments_in, result_types_of}
 use Rattle.plir_core.specs.ContextView.{arg_types_of}
-use Rattle.plir_core.specs.Held.{IsOpEdited}
+use Rattle.plir_core.specs.Held.{IsOpEdited, IsBlockEdited, KeepsNodes}
 use Rattle.plir_core.specs.Made.{KeepsLive, IsMade}
-use Rattle.plir_core.specs.SameValue.{same_ptr, ptr-exact}
 use Rattle.plir_copies.specs.Images.{Images, AreImagesLive}
-
-bool_cases : (b : Bool) → (b ≡ true) ⊎ (b ≡ false)
-bool_cases true = inl refl
-bool_cases false = inr refl
-
--- two pointers are the same or not
-pub ptr-told : {X : Type 0} (p q : Ptr X) → (p ≡ q) ⊎ (p ≡ q → ⊥)
-ptr-told p q = elim (bool_cases (same_ptr p q)) [
-  | inl e ↦ inl ((ptr-exact p q).0 e)
-  | inr e ↦ inr (λ h. true≢false (sym ((ptr-exact p q).1 h) ∙ e))
-]
-
-left : (a b : Bool) → (a && b) ≡ true → a ≡ true
-left true b e = refl
-left false b e = e
-
-right : (a b : Bool) → (a && b) ≡ true → b ≡ true
-right true b e = e
-right false b e = absurd (true≢false (sym e))
-
-both : (a b : Bool) → a ≡ true → b ≡ true → (a && b) ≡ true
-both a b p q = rw (p, q) refl
+use Rattle.plir_copies.specs.Staying.{keeps_same, keeps_both}
+use Rattle.plir_copies.specs.Telling.{ptr_told}
 
 option_map-both : {X Y Z : Type 0} (f : X → Y) (g : Y → Z) (o : Option X) → option_map g (option_map f o)
     ≡ option_map (λ x. g (f x)) o
@@ -58,16 +39,6 @@ module _ {O B : Type 0} where
     limit = refl;
   }
 
-  pub keeps-both : (s t u : _) → KeepsLive {O = O} {B = B} s t → KeepsLive t u → KeepsLive s u
-  keeps-both s t u e f = record {
-    live = λ m l. f.live m (e.live m l);
-    parents = λ m l. f.parents m (e.live m l) ∙ e.parents m l;
-    ops = λ p l. f.ops p (e.live (Operation p) l) ∙ e.ops p l;
-    blocks = λ p l. f.blocks p (e.live (BasicBlock p) l) ∙ e.blocks p l;
-    given = λ m l. f.given m (e.given m l);
-    limit = f.limit ∙ e.limit;
-  }
-
 module _ {K A T : Type 0} (s t : ContextView K A T) where
   -- From s to t values stay live where what they come from stays live, with types as many.
   pub value-kept : ((n : IRNode) → IsLive s n → IsLive t n)
@@ -79,15 +50,15 @@ module _ {K A T : Type 0} (s t : ContextView K A T) where
       go : (e : DefiningEntity) (i : ℕ) → (is_live s (entity_node e) && nat_lt i (length (types_from s e))) ≡ true
           → (is_live t (entity_node e) && nat_lt i (length (types_from t e))) ≡ true
       go (Op p) i h =
-          let a = left (is_live s (Operation p)) (nat_lt i (length (result_types_of s p))) h in
-          both (is_live t (Operation p)) (nat_lt i (length (result_types_of t p))) (live (Operation p) a)
+          let a = first_so (is_live s (Operation p)) (nat_lt i (length (result_types_of s p))) h in
+          and_from (is_live t (Operation p)) (nat_lt i (length (result_types_of t p))) (live (Operation p) a)
           (subst (λ ts. nat_lt i (length ts) ≡ true) (sym (results p a))
-          (right (is_live s (Operation p)) (nat_lt i (length (result_types_of s p))) h))
+          (second_so (is_live s (Operation p)) (nat_lt i (length (result_types_of s p))) h))
       go (Block p) i h =
-          let a = left (is_live s (BasicBlock p)) (nat_lt i (length (arg_types_of s p))) h in
-          both (is_live t (BasicBlock p)) (nat_lt i (length (arg_types_of t p))) (live (BasicBlock p) a)
+          let a = first_so (is_live s (BasicBlock p)) (nat_lt i (length (arg_types_of s p))) h in
+          and_from (is_live t (BasicBlock p)) (nat_lt i (length (arg_types_of t p))) (live (BasicBlock p) a)
           (subst (λ ts. nat_lt i (length ts) ≡ true) (sym (arguments p a))
-          (right (is_live s (BasicBlock p)) (nat_lt i (length (arg_types_of s p))) h))
+          (second_so (is_live s (BasicBlock p)) (nat_lt i (length (arg_types_of s p))) h))
 
   pub images-kept : (m : Images) → ((n : IRNode) → IsLive s n → IsLive t n)
       → ((v : Value) → IsValueLive s v → IsValueLive t v) → AreImagesLive s m → AreImagesLive t m
@@ -116,7 +87,7 @@ module _ {K A T : Type 0} (s t : ContextView K A T) where
     mapped (Some o) = keeps o
 
     pub value-edited : (v : Value) → IsValueLive s v → IsValueLive t v
-    value-edited = value-kept (λ n l. e.keeps.live n ∙ l) (λ q l. elim (ptr-told q p) [
+    value-edited = value-kept (λ n l. e.keeps.live n ∙ l) (λ q l. elim (ptr_told q p) [
       | inl same ↦ ap (result_types_of t) same ∙ (ap results_in e.held ∙ mapped (op_at s p)) ∙ ap (result_types_of s) (sym same)
       | inr other ↦ ap results_in (e.ops q l other)
     ]) (λ b l. ap arguments_in (e.blocks b))
@@ -129,14 +100,7 @@ module _ {K A T : Type 0} where
   pub edited-same : (s : ContextView K A T) (p : Ptr OperationKind) (f : OpView K A → OpView K A)
       → option_map f (op_at s p) ≡ op_at s p → IsOpEdited s s p f
   edited-same s p f h = record {
-    keeps = record {
-      live = λ n. refl;
-      given = λ n. refl;
-      children = λ n. refl;
-      parents = λ n. refl;
-      types = refl;
-      limit = refl;
-    };
+    keeps = keeps_same s;
     held = sym h;
     ops = λ q l n. refl;
     blocks = λ b. refl;
@@ -145,14 +109,7 @@ module _ {K A T : Type 0} where
   pub edited-both : (s t u : ContextView K A T) (p : Ptr OperationKind) (f g : OpView K A → OpView K A)
       → IsOpEdited s t p f → IsOpEdited t u p g → IsOpEdited s u p (λ o. g (f o))
   edited-both s t u p f g d e = record {
-    keeps = record {
-      live = λ n. e.keeps.live n ∙ d.keeps.live n;
-      given = λ n. e.keeps.given n ∙ d.keeps.given n;
-      children = λ n. e.keeps.children n ∙ d.keeps.children n;
-      parents = λ n. e.keeps.parents n ∙ d.keeps.parents n;
-      types = e.keeps.types ∙ d.keeps.types;
-      limit = e.keeps.limit ∙ d.keeps.limit;
-    };
+    keeps = keeps_both s t u d.keeps e.keeps;
     held = e.held ∙ ap (option_map g) d.held ∙ option_map-both f g (op_at s p);
     ops = λ q l n. e.ops q (d.keeps.live (Operation q) ∙ l) n ∙ d.ops q l n;
     blocks = λ b. e.blocks b ∙ d.blocks b;
@@ -162,27 +119,40 @@ module _ {K A T : Type 0} where
       → IsOpEdited s t p f → option_map f (op_at s p) ≡ option_map g (op_at s p) → IsOpEdited s t p g
   edited-as s t p f g e h = record { keeps = e.keeps; held = e.held ∙ h; ops = e.ops; blocks = e.blocks }
 
-  -- what was made, with one of its new operations edited, was made
-  pub made-edited : (s t u : ContextView K A T) (n : IRNode) (q : Ptr OperationKind) (f : OpView K A → OpView K A)
-      → IsMade s.nodes t.nodes n → IsOpEdited t u q f → is_live s (Operation q) ≡ false → IsMade s.nodes u.nodes n
-  made-edited s t u n q f m e new = record {
+  -- what was made, with all nodes kept and all that was live before as it was, was made
+  pub made-kept : (s t u : ContextView K A T) (n : IRNode) → IsMade s.nodes t.nodes n → KeepsNodes t u
+      → ((p : Ptr OperationKind) → IsLive s (Operation p) → op_at u p ≡ op_at t p)
+      → ((b : Ptr BlockKind) → IsLive s (BasicBlock b) → block_at u b ≡ block_at t b) → IsMade s.nodes u.nodes n
+  made-kept s t u n m e ops blocks = record {
     keeps = record {
-      live = λ x l. e.keeps.live x ∙ m.keeps.live x l;
-      parents = λ x l. e.keeps.parents x ∙ m.keeps.parents x l;
-      ops = λ p l. e.ops p (m.keeps.live (Operation p) l) (λ same. true≢false (sym l ∙ ap (λ z. is_live s (Operation z)) same
-          ∙ new)) ∙ m.keeps.ops p l;
-      blocks = λ b l. e.blocks b ∙ m.keeps.blocks b l;
-      given = λ x g. e.keeps.given x ∙ m.keeps.given x g;
-      limit = e.keeps.limit ∙ m.keeps.limit;
+      live = λ x l. e.live x ∙ m.keeps.live x l;
+      parents = λ x l. e.parents x ∙ m.keeps.parents x l;
+      ops = λ p l. ops p l ∙ m.keeps.ops p l;
+      blocks = λ b l. blocks b l ∙ m.keeps.blocks b l;
+      given = λ x g. e.given x ∙ m.keeps.given x g;
+      limit = e.limit ∙ m.keeps.limit;
     };
-    children = λ x l. e.keeps.children x ∙ m.children x l;
+    children = λ x l. e.children x ∙ m.children x l;
     new = m.new;
-    root = e.keeps.live n ∙ m.root;
-    top = e.keeps.parents n ∙ m.top;
-    below = λ x l o. subst (λ up. Reaches up x n) parents (m.below x (sym (e.keeps.live x) ∙ l) o);
-    fresh = λ x l o. m.fresh x (sym (e.keeps.live x) ∙ l) o;
+    root = e.live n ∙ m.root;
+    top = e.parents n ∙ m.top;
+    below = λ x l o. subst (λ up. Reaches up x n) parents (m.below x (sym (e.live x) ∙ l) o);
+    fresh = λ x l o. m.fresh x (sym (e.live x) ∙ l) o;
     apart = λ x l r. m.apart x l (subst (λ up. Reaches up x n) (sym parents) r);
   }
     where
       parents : parent_of t ≡ parent_of u
-      parents = λ i x. sym (e.keeps.parents x) i
+      parents = λ i x. sym (e.parents x) i
+
+  -- so is it with one of its new operations, or of its new blocks, edited
+  pub made-edited : (s t u : ContextView K A T) (n : IRNode) (q : Ptr OperationKind) (f : OpView K A → OpView K A)
+      → IsMade s.nodes t.nodes n → IsOpEdited t u q f → is_live s (Operation q) ≡ false → IsMade s.nodes u.nodes n
+  made-edited s t u n q f m e new =
+      made-kept s t u n m e.keeps (λ p l. e.ops p (m.keeps.live (Operation p) l) (λ same.
+      true≢false (sym l ∙ ap (λ z. is_live s (Operation z)) same ∙ new))) (λ b l. e.blocks b)
+
+  pub made-block : (s t u : ContextView K A T) (n : IRNode) (q : Ptr BlockKind) (f : BlockView A → BlockView A)
+      → IsMade s.nodes t.nodes n → IsBlockEdited t u q f → is_live s (BasicBlock q) ≡ false → IsMade s.nodes u.nodes n
+  made-block s t u n q f m e new =
+      made-kept s t u n m e.keeps (λ p l. e.ops p) (λ b l. e.blocks b (m.keeps.live (BasicBlock b) l) (λ same.
+      true≢false (sym l ∙ ap (λ z. is_live s (BasicBlock z)) same ∙ new)))

@@ -1,8 +1,10 @@
 -- What a map holds into which the copies of the nodes of a list are put, one after another.
-use Rattle.std.proofs.Common.{◌≡◌, ◌∙◌, ◌⊎◌, ℕ, Bool, true, false, true≢false, cond, ◌&&◌, nat_lt, List, [], ◌∷◌}
+use Rattle.std.proofs.Common.{◌≡◌, ◌∙◌, ℕ, Bool, true, false, cond, nat_lt, List, [], ◌∷◌}
 use Rattle.std.proofs.Common.{length}
 use Rattle.std.proofs.Common.{Option, Some, None, inl, inr, refl, sym, ap, subst}
 use Rattle.std.specs.Option.{option_or}
+use Rattle.std.specs.Cmp.{first_so, second_so}
+use Rattle.std.proofs.lemmas.Bool.{and_from}
 use Rattle.plir_store.specs.Members.{Has, Distinct}
 use Rattle.plir_store.specs.MemberLaws.{map-Has}
 use Rattle.plir_core.specs.declared.ptr.Ptr.{Ptr}
@@ -21,21 +23,6 @@ use Rattle.plir_copies.specs.Copied.{is_among_first, value_at}
 use Rattle.plir_copies.specs.Twins.{nodes_of, AreOfOneKind, HoldsAs, with_twin, with_twins}
 use Rattle.plir_copies.proofs.Images.{live-values, live-block}
 
-left : (a b : Bool) → (a && b) ≡ true → a ≡ true
-left true b e = refl
-left false b e = e
-
-right : (a b : Bool) → (a && b) ≡ true → b ≡ true
-right true b e = e
-right false b e = absurd (true≢false (sym e))
-
-both : (a b : Bool) → a ≡ true → b ≡ true → (a && b) ≡ true
-both a b p q = rw (p, q) refl
-
-bool-cases : (b : Bool) → (b ≡ true) ⊎ (b ≡ false)
-bool-cases true = inl refl
-bool-cases false = inr refl
-
 -- nothing is chosen where a test does not hold
 skipped : {X : Type 0} (b : Bool) (x y : X) → (b ≡ true → ⊥) → cond b x y ≡ y
 skipped true x y n = absurd (n refl)
@@ -45,10 +32,10 @@ module _ {K A T : Type 0} (t : ContextView K A T) where
   among : (e : DefiningEntity) (v : Value) → is_among_first e (length (types_from t e)) v ≡ true
       → (entity_node v.entity ≡ entity_node e) × (nat_lt v.index (length (types_from t v.entity)) ≡ true)
   among e v h =
-      let same = (entity-exact e v.entity).0 (left (same_entity e v.entity) (nat_lt v.index (length (types_from t e))) h) in (
+      let same = (entity-exact e v.entity).0 (first_so (same_entity e v.entity) (nat_lt v.index (length (types_from t e))) h) in (
         ap entity_node (sym same),
         subst (λ x. nat_lt v.index (length (types_from t x)) ≡ true) same
-            (right (same_entity e v.entity) (nat_lt v.index (length (types_from t e))) h),
+            (second_so (same_entity e v.entity) (nat_lt v.index (length (types_from t e))) h),
       )
 
   -- other values stay
@@ -102,10 +89,10 @@ module _ {K A T : Type 0} (t : ContextView K A T) where
       → nat_lt i (length (types_from t e)) ≡ true
       → (with_twin t m (entity_node e) (entity_node f)).value (value_at e i) ≡ Some (value_at f i)
   put-value m (Op p) (Op q) i k l =
-      ap (λ b. cond b (Some (value_at (Op q) i)) (m.value (value_at (Op p) i))) (both (same_ptr p p)
+      ap (λ b. cond b (Some (value_at (Op q) i)) (m.value (value_at (Op p) i))) (and_from (same_ptr p p)
       (nat_lt i (length (types_from t (Op p)))) ((ptr-exact p p).1 refl) l)
   put-value m (Block p) (Block q) i k l =
-      ap (λ b. cond b (Some (value_at (Block q) i)) (m.value (value_at (Block p) i))) (both (same_ptr p p)
+      ap (λ b. cond b (Some (value_at (Block q) i)) (m.value (value_at (Block p) i))) (and_from (same_ptr p p)
       (nat_lt i (length (types_from t (Block p)))) ((ptr-exact p p).1 refl) l)
   put-value m (Op p) (Block q) i k l = absurd k
   put-value m (Block p) (Op q) i k l = absurd k

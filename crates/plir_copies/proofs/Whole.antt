@@ -1,8 +1,9 @@
 -- What a copied tree is, once all of it is copied.
-use Rattle.std.proofs.Common.{◌≡◌, ◌∙◌, ◌⊎◌, ℕ, zero, suc, Bool, true, false, true≢false, cond, List, [], ◌∷◌, ◌++◌}
+use Rattle.std.proofs.Common.{◌≡◌, ◌∙◌, ℕ, zero, suc, true, false, true≢false, cond, List, [], ◌∷◌, ◌++◌}
 use Rattle.std.proofs.Common.{map}
 use Rattle.std.proofs.Common.{Option, Some, None, inl, inr, refl, sym, ap, subst, option_map}
 use Rattle.std.proofs.lemmas.Option.{same_Some, none-some}
+use Rattle.std.proofs.lemmas.Bool.{cases_Bool}
 use Rattle.plir_store.specs.Members.{Has, Distinct}
 use Rattle.plir_store.specs.MemberLaws.{Has-map, map-Has}
 use Rattle.plir_core.specs.declared.ptr.Ptr.{Ptr}
@@ -12,7 +13,7 @@ use Rattle.plir_core.specs.declared.ptr.BasicBlock.{BasicBlock as BlockKind}
 use Rattle.plir_core.specs.declared.ptr.IRNode.{IRNode}
 use Rattle.plir_core.specs.declared.ptr.IRNode.TheVariants.{Operation, Region, BasicBlock}
 use Rattle.plir_core.specs.SameValue.{same_ptr, ptr-exact}
-use Rattle.plir_core.specs.Above.{climb, Reaches}
+use Rattle.plir_core.specs.Above.{climb}
 use Rattle.plir_core.specs.ContextView.{ContextView, IsLive, IsAncestor, is_live, children, parent_of, op_at, block_at}
 use Rattle.plir_core.specs.Forest.{look, IsForest}
 use Rattle.plir_core.specs.Made.{IsMade}
@@ -25,6 +26,7 @@ use Rattle.plir_copies.specs.Room.{count_of, tree_count}
 use Rattle.plir_copies.specs.Trees.{Copies, node_copy, HoldsTheSame, IsCopied, IsTreeCopied}
 use Rattle.plir_copies.specs.Twins.{nodes_of, copies_of, AreOfOneKind, HoldsAs, IsTwin, AreTogether, IsCopying}
 use Rattle.plir_copies.specs.Twins.{AreChanged}
+use Rattle.plir_copies.proofs.Keeping.{made-kept}
 use Rattle.plir_copies.proofs.TreeNodes.{climb-none, tree-counted}
 use Rattle.plir_copies.proofs.Twins.{holds-kind}
 
@@ -56,16 +58,12 @@ block_in_list (w ∷ ws) x = block_or w.node w.copy x (block_in_list ws x)
 abbrev pub copies_in : List Twin → Copies
 copies_in ws = record { op = op_in ws; region = region_in ws; block = block_in_list ws }
 
-bool-cases : (b : Bool) → (b ≡ true) ⊎ (b ≡ false)
-bool-cases true = inl refl
-bool-cases false = inr refl
-
 module _ {X : Type 0} (p q rest : Ptr X) where
   hit : cond (same_ptr p p) q rest ≡ q
   hit = ap (λ b. cond b q rest) ((ptr-exact p p).1 refl)
 
   missed : (x : Ptr X) → (p ≡ x → ⊥) → cond (same_ptr p x) q rest ≡ rest
-  missed x n = elim (bool-cases (same_ptr p x)) [
+  missed x n = elim (cases_Bool (same_ptr p x)) [
     | inl e ↦ absurd (n ((ptr-exact p x).0 e))
     | inr e ↦ ap (λ b. cond b q rest) e
   ]
@@ -227,25 +225,7 @@ module _ {K A T : Type 0} (s t : ContextView K A T) (root copy : IRNode) (ws : L
 
     -- what was made, with its operations changed, was made
     pub made-changed : IsMade s.nodes u.nodes copy
-    made-changed = record {
-      keeps = record {
-        live = λ x l. changed.keeps.live x ∙ h.made.keeps.live x l;
-        parents = λ x l. changed.keeps.parents x ∙ h.made.keeps.parents x l;
-        ops = λ p l. changed.others p (h.made.keeps.live (Operation p) l) (λ k.
-            let w = Has-map (λ z. z.copy) ws (Operation p) k in
-            true≢false (sym l ∙ ap (is_live s) (sym w.1.1) ∙ (h.each w.0 w.1.0).new)) ∙ h.made.keeps.ops p l;
-        blocks = λ b l. changed.blocks b ∙ h.made.keeps.blocks b l;
-        given = λ x g. changed.keeps.given x ∙ h.made.keeps.given x g;
-        limit = changed.keeps.limit ∙ h.made.keeps.limit;
-      };
-      children = λ x l. changed.keeps.children x ∙ h.made.children x l;
-      new = h.made.new;
-      root = changed.keeps.live copy ∙ h.made.root;
-      top = changed.keeps.parents copy ∙ h.made.top;
-      below = λ x l o. subst (λ up. Reaches up x copy) parents (h.made.below x (sym (changed.keeps.live x) ∙ l) o);
-      fresh = λ x l o. h.made.fresh x (sym (changed.keeps.live x) ∙ l) o;
-      apart = λ x l r. h.made.apart x l (subst (λ up. Reaches up x copy) (sym parents) r);
-    }
-      where
-        parents : parent_of t ≡ parent_of u
-        parents = λ i x. sym (changed.keeps.parents x) i
+    made-changed =
+        made-kept s t u copy h.made changed.keeps (λ p l. changed.others p (h.made.keeps.live (Operation p) l) (λ k.
+        let w = Has-map (λ z. z.copy) ws (Operation p) k in
+        true≢false (sym l ∙ ap (is_live s) (sym w.1.1) ∙ (h.each w.0 w.1.0).new))) (λ b l. changed.blocks b)

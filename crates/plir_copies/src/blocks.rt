@@ -1,5 +1,5 @@
 //! Copies of blocks.
-ghost use Rattle.std.specs.Prelude.{◌≡◌, [], ℕ, Err, IfOk, List, OnErr, OnOk, length, true};
+ghost use Rattle.std.specs.Prelude.{◌≡◌, [], ℕ, Err, IfOk, List, OnErr, OnOk, Some, length, true};
 ghost use Rattle.plir_data.specs.AttrLive.{HandlesLive};
 ghost use Rattle.plir_data.specs.AttrView.{AttrView};
 ghost use Rattle.plir_data.specs.Types.{AllLive};
@@ -84,6 +84,44 @@ fn set_attributes<D: OpSet>(
     Ok(())
 }
 
+/// A block in no region with the label of another one, and with these argument types and attributes. It has no
+/// operation. `TooManyNodes` comes only where there is no room for a block. After a refusal no live node has changed.
+pub(crate) fn block_with<D: OpSet>(
+    alloc: Global,
+    ctx: &mut Context<D>,
+    block: Ptr<BasicBlock>,
+    types: Vec<TypeHandle>,
+    attributes: &AttributeDict<D>,
+) -> Result<Ptr<BasicBlock>, NodeErr>
+    requires live { IsLive ctx.old (AnyNode.BasicBlock block) }
+    requires types_live { AllLive ctx.old.types types.items }
+    requires handles { HandlesLive D.attr_handles ctx.old.types attributes.now }
+    ensures made { IfOk result (λ b. IsMade ctx.old.nodes ctx.new.nodes (AnyNode.BasicBlock b)) }
+    ensures held { IfOk result (λ b. block_at ctx.new b ≡ Some
+        (record { label = label_of ctx.old block; arg_types = types.items; attributes = attributes.now })) }
+    ensures leaf { IfOk result (λ b. children ctx.new (AnyNode.BasicBlock b) ≡ []) }
+    ensures types { ctx.new.types ≡ ctx.old.types }
+    ensures given { (n : AnyNode) → given_out ctx.old n ≡ true → given_out ctx.new n ≡ true }
+    ensures err { OnErr result (SameLive ctx.old ctx.new) }
+    ensures too_many_only { result ≡ Err NodeErr.TooManyNodes → IsFullForBlock ctx.old.nodes }
+    ensures full { result ≡ Err NodeErr.TooManyNodes → IsFullFor ctx.old.nodes one_block }
+    ensures come { OnOk result (HaveCome ctx.old.nodes ctx.new.nodes one_block) }
+    ensures whole { IsWellFormed D.attr_handles ctx.new }
+{
+    ctx.stands();
+    growth(ctx);
+    what_was_made_is_unused(ctx);
+    let label = copied_label(alloc, ctx, block)?;
+    let made = BasicBlock::new(alloc, ctx, label, types)?;
+    match set_attributes(alloc, ctx, made, attributes) {
+        Ok(()) => Ok(made),
+        Err(Memory) => {
+            BasicBlock::erase(made, ctx);
+            Err(NodeErr::Memory)
+        }
+    }
+}
+
 /// A block in no region that holds what another one holds. It has no operation.
 pub(crate) fn copy_block<D: OpSet>(
     alloc: Global,
@@ -103,19 +141,9 @@ pub(crate) fn copy_block<D: OpSet>(
     ensures whole { IsWellFormed D.attr_handles ctx.new }
 {
     ctx.stands();
-    growth(ctx);
-    what_was_made_is_unused(ctx);
-    let label = copied_label(alloc, ctx, block)?;
     let types = argument_types(alloc, ctx, block)?;
     let attributes = block.attributes(ctx).try_clone(alloc)?;
-    let copy = BasicBlock::new(alloc, ctx, label, types)?;
-    match set_attributes(alloc, ctx, copy, &attributes) {
-        Ok(()) => Ok(copy),
-        Err(Memory) => {
-            BasicBlock::erase(copy, ctx);
-            Err(NodeErr::Memory)
-        }
-    }
+    block_with(alloc, ctx, block, types, &attributes)
 }
 
 /// Puts the arguments of the copy of a block in place of those of the block.

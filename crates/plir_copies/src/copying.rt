@@ -1,7 +1,7 @@
 //! Copies of operations.
 ghost use Rattle.std.specs.Prelude.{◌≡◌, [], Err, IfOk, OnErr, OnOk, option_map, true, length};
 ghost use Rattle.plir_core.specs.Changes.{SameLive};
-ghost use Rattle.plir_core.specs.ContextView.{IsLive, children, given_out, op_at, operands_of, result_types_of};
+ghost use Rattle.plir_core.specs.ContextView.{IsLive, children, given_out, op_at, result_types_of};
 ghost use Rattle.plir_core.specs.Held.{IsOpEdited};
 ghost use Rattle.plir_core.specs.Made.{IsMade};
 ghost use Rattle.plir_core.specs.Room.{IsFullForOp};
@@ -9,7 +9,7 @@ ghost use Rattle.plir_core.specs.WellFormed.{IsWellFormed};
 ghost use Rattle.plir_core.specs.declared.ptr.IRNode.{IRNode as AnyNode};
 ghost use Rattle.plir_core.specs.declared.value.DefiningEntity.{DefiningEntity};
 ghost use Rattle.plir_core.specs.Room.{HaveCome, IsFullFor, no_node, one_op};
-ghost use Rattle.plir_copies.specs.Images.{AreImagesLive, images, over};
+ghost use Rattle.plir_copies.specs.Images.{AreImagesLive, images};
 ghost use Rattle.plir_copies.specs.Copied.{bare_under, op_under, with_operands_in, with_values_of};
 
 use crate::reading::{operands, result_types, successors_under};
@@ -19,20 +19,18 @@ use plir_core::{Context, NodeErr, Operation, Ptr};
 use plir_data::{Memory, OpSet};
 use std::alloc::Global;
 
-/// An operation in no block that holds what another one holds, but for what stands in place of its successors in two
-/// maps, of which the first counts, and for the call of the second one in place of which it stands. It has no region.
+/// An operation in no block that holds what another one holds, but for what stands in place of its successors in a map,
+/// and for the call of the map in place of which it stands. It has no region.
 pub(crate) fn copy_bare<D: OpSet>(
     alloc: Global,
     ctx: &mut Context<D>,
-    here: &ValueMap,
     map: &ValueMap,
     op: Ptr<Operation>,
 ) -> Result<Ptr<Operation>, NodeErr>
     requires live { IsLive ctx.old (AnyNode.Operation op) }
-    requires images_live { AreImagesLive ctx.old (over (images here.now) (images map.now)) }
+    requires images_live { AreImagesLive ctx.old (images map.now) }
     ensures made { IfOk result (λ p. IsMade ctx.old.nodes ctx.new.nodes (AnyNode.Operation p)) }
-    ensures held { IfOk result (λ p. op_at ctx.new p ≡ option_map (bare_under (over (images here.now)
-        (images map.now))) (op_at ctx.old op)) }
+    ensures held { IfOk result (λ p. op_at ctx.new p ≡ option_map (bare_under (images map.now)) (op_at ctx.old op)) }
     ensures leaf { IfOk result (λ p. children ctx.new (AnyNode.Operation p) ≡ []) }
     ensures types { ctx.new.types ≡ ctx.old.types }
     ensures given { (n : AnyNode) → given_out ctx.old n ≡ true → given_out ctx.new n ≡ true }
@@ -47,7 +45,7 @@ pub(crate) fn copy_bare<D: OpSet>(
     let location = op.loc(ctx).inlined_at(map.call());
     let types = result_types(alloc, ctx, op)?;
     let operands = operands(alloc, ctx, op)?;
-    let successors = successors_under(alloc, ctx, here, map, op)?;
+    let successors = successors_under(alloc, ctx, map, op)?;
     let attributes = op.attributes(ctx).try_clone(alloc)?;
     let copy = Operation::with_attributes(ctx, kind, types, operands, successors, attributes, 0)?;
     op_edits_keep_the_rest(ctx, copy);
@@ -55,27 +53,19 @@ pub(crate) fn copy_bare<D: OpSet>(
     Ok(copy)
 }
 
-/// Gives the copy of an operation what stands in place of the operation's operands.
-pub(crate) fn set_operands<D: OpSet>(
-    ctx: &mut Context<D>,
-    map: &ValueMap,
-    op: Ptr<Operation>,
-    copy: Ptr<Operation>,
-)
+/// Puts in place of each operand of an operation what stands in its place in a map.
+pub(crate) fn change_operands<D: OpSet>(ctx: &mut Context<D>, map: &ValueMap, op: Ptr<Operation>)
     requires live { IsLive ctx.old (AnyNode.Operation op) }
-    requires copy_live { IsLive ctx.old (AnyNode.Operation copy) }
-    requires apart { op ≡ copy → ⊥ }
-    requires same { operands_of ctx.old copy ≡ operands_of ctx.old op }
     requires images_live { AreImagesLive ctx.old (images map.now) }
-    ensures edited { IsOpEdited ctx.old ctx.new copy (with_operands_in (images map.now)) }
+    ensures edited { IsOpEdited ctx.old ctx.new op (with_operands_in (images map.now)) }
     ensures none_come { HaveCome ctx.old.nodes ctx.new.nodes no_node }
     ensures whole { IsWellFormed D.attr_handles ctx.new }
 {
     ctx.stands();
     for i in 0..op.get_num_operands(ctx) {
-        op_edits_keep_the_rest(ctx, copy);
+        op_edits_keep_the_rest(ctx, op);
         let operand = op.get_operand(ctx, i);
-        copy.replace_operand(ctx, i, map.value(operand));
+        op.replace_operand(ctx, i, map.value(operand));
     }
 }
 
@@ -151,11 +141,10 @@ pub fn clone_op_into<D: OpSet>(
     ctx.stands();
     growth(ctx);
     what_was_made_is_unused(ctx);
-    let nothing = ValueMap::new(alloc);
-    let copy = copy_bare(alloc, ctx, &nothing, map, op)?;
+    let copy = copy_bare(alloc, ctx, map, op)?;
     match map_results_in_whole(alloc, ctx, map, op, copy) {
         Ok(()) => {
-            set_operands(ctx, map, op, copy);
+            change_operands(ctx, map, copy);
             Ok(copy)
         }
         Err(Memory) => {

@@ -4,7 +4,7 @@ ghost use Rattle.plir_data.specs.Types.{AllLive};
 ghost use Rattle.plir_core.specs.ContextView.{IsLive, IsValueLive, operands_of, result_types_of, successors_of};
 ghost use Rattle.plir_core.specs.WellFormed.{IsWellFormed};
 ghost use Rattle.plir_core.specs.declared.ptr.IRNode.{IRNode as AnyNode};
-ghost use Rattle.plir_copies.specs.Images.{AreImagesLive, block_in, blocks_in, images, over};
+ghost use Rattle.plir_copies.specs.Images.{AreImagesLive, blocks_in, images};
 
 use crate::value_map::ValueMap;
 use plir_core::{BasicBlock, Context, Operation, Ptr, Value};
@@ -49,35 +49,23 @@ pub(crate) fn operands<D: OpSet>(
     Ok(operands)
 }
 
-// What stands in place of a block in two maps, of which the first counts.
-fn block_under(here: &ValueMap, map: &ValueMap, block: Ptr<BasicBlock>) -> Ptr<BasicBlock>
-    ensures { result ≡ block_in (over (images here.now) (images map.now)) block }
-{
-    match here.find_block(block) {
-        Some(image) => image,
-        None => map.block(block),
-    }
-}
-
-/// What stands in place of the successors of an operation in two maps, of which the first counts.
+/// What stands in place of the successors of an operation in a map.
 pub(crate) fn successors_under<D: OpSet>(
     alloc: Global,
     ctx: &Context<D>,
-    here: &ValueMap,
     map: &ValueMap,
     op: Ptr<Operation>,
 ) -> Result<Vec<Ptr<BasicBlock>>, Memory>
     requires live { IsLive ctx.now (AnyNode.Operation op) }
-    requires images_live { AreImagesLive ctx.now (over (images here.now) (images map.now)) }
-    ensures value { IfOk result (λ bs. bs.items ≡ blocks_in (over (images here.now) (images map.now))
-        (successors_of ctx.now op)) }
+    requires images_live { AreImagesLive ctx.now (images map.now) }
+    ensures value { IfOk result (λ bs. bs.items ≡ blocks_in (images map.now) (successors_of ctx.now op)) }
     ensures live { IfOk result (λ bs. All (λ b. IsLive ctx.now (AnyNode.BasicBlock b)) bs.items) }
     ensures whole { IsWellFormed D.attr_handles ctx.now }
 {
     ctx.stands();
     let mut successors = Vec::new(alloc);
     for i in 0..op.get_num_successors(ctx) {
-        successors.push(block_under(here, map, op.get_successor(ctx, i)))?;
+        successors.push(map.block(op.get_successor(ctx, i)))?;
     }
     Ok(successors)
 }

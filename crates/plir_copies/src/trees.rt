@@ -16,7 +16,7 @@ ghost use Rattle.plir_core.specs.declared.ptr.Region.{Region as RegionKind};
 ghost use Rattle.plir_core.specs.Room.{HaveCome, IsFullFor, no_node, one_block, one_op, one_region};
 ghost use Rattle.plir_store.specs.Members.{Distinct, Has};
 ghost use Rattle.plir_copies.specs.Images.{AreImagesLive, images, no_images, over};
-ghost use Rattle.plir_copies.specs.Copied.{located_in, with_operands_in, with_successors_in};
+ghost use Rattle.plir_copies.specs.Copied.{located_in, with_successors_in};
 ghost use Rattle.plir_copies.specs.Room.{count_of, one_like};
 ghost use Rattle.plir_copies.specs.Room.{tree_count};
 ghost use Rattle.plir_copies.specs.Trees.{IsCopyOfTree};
@@ -25,7 +25,7 @@ ghost use Rattle.plir_copies.specs.Twins.{HoldsAs, IsAddedLast, IsCopying, copie
 ghost use Rattle.plir_copies.specs.declared.trees.Twin.{Twin as AnyTwin};
 
 use crate::blocks::{copy_block, map_arguments};
-use crate::copying::{copy_bare, map_results};
+use crate::copying::{change_operands, copy_bare, map_results};
 use crate::value_map::ValueMap;
 use plir_core::laws::{
     contexts_stand, first_child_is_front, growth, next_is_behind, nothing_stands_below_a_leaf,
@@ -60,7 +60,7 @@ fn copy_op<D: OpSet>(
     ensures whole { IsWellFormed D.attr_handles ctx.new }
 {
     let nothing = ValueMap::new(alloc);
-    let copy = copy_bare(alloc, ctx, &nothing, &nothing, op)?;
+    let copy = copy_bare(alloc, ctx, &nothing, op)?;
     Ok(copy)
 }
 
@@ -308,22 +308,6 @@ fn map_twins<D: OpSet>(ctx: &Context<D>, map: &mut ValueMap, twins: &[Twin]) -> 
         map_twin(ctx, map, twin)?;
     }
     Ok(())
-}
-
-// Puts in place of each operand of an operation what stands in its place in a map.
-fn change_operands<D: OpSet>(ctx: &mut Context<D>, map: &ValueMap, op: Ptr<Operation>)
-    requires live { IsLive ctx.old (AnyNode.Operation op) }
-    requires images_live { AreImagesLive ctx.old (images map.now) }
-    ensures edited { IsOpEdited ctx.old ctx.new op (with_operands_in (images map.now)) }
-    ensures none_come { HaveCome ctx.old.nodes ctx.new.nodes no_node }
-    ensures whole { IsWellFormed D.attr_handles ctx.new }
-{
-    ctx.stands();
-    for i in 0..op.get_num_operands(ctx) {
-        op_edits_keep_the_rest(ctx, op);
-        let operand = op.get_operand(ctx, i);
-        op.replace_operand(ctx, i, map.value(operand));
-    }
 }
 
 // Puts in place of each successor of an operation what stands in its place in a map.

@@ -3,7 +3,7 @@ use Rattle.std.specs.Prelude.{All}
 use Rattle.std.proofs.lemmas.List.Elements.{All-push}
 use Rattle.plir_data.specs.Types.{IsLive as IsTypeLive}
 use Rattle.plir_core.specs.ContextView.{arg_types_of}
-use Rattle.plir_copies.proofs.Lists.{take-next}
+use Rattle.plir_copies.specs.ListLaws.{take_next}
 use Rattle.plir_copies.proofs.blocks.argument_types.Goals as goal
 
 pub loop-i-preserved : goal.loop-i-preserved
@@ -11,7 +11,7 @@ loop-i-preserved g c =
     let s = c.args.ctx.now in
     let x = c.get_type.result in (
       c.in_ok-push.ensures.items ∙ ap (λ z. z ++ x ∷ []) c.loop-i.invariant.0
-          ∙ sym (take-next (arg_types_of s c.args.block) c.loop-i.i x c.get_type.ensures.value),
+          ∙ sym (take_next (arg_types_of s c.args.block) c.loop-i.i x c.get_type.ensures.value),
       subst (All (IsTypeLive s.types)) (sym c.in_ok-push.ensures.items)
           (All-push (IsTypeLive s.types) c.loop-i.types.items x c.loop-i.invariant.1 c.get_type.ensures.live),
     )

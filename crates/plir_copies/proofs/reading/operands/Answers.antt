@@ -2,7 +2,7 @@ use Rattle.std.proofs.Common.{◌∙◌, ap, sym, subst, ◌++◌, ◌∷◌, []
 use Rattle.std.specs.Prelude.{All}
 use Rattle.std.proofs.lemmas.List.Elements.{All-push}
 use Rattle.plir_core.specs.ContextView.{IsValueLive, operands_of}
-use Rattle.plir_copies.proofs.Lists.{take-next}
+use Rattle.plir_copies.specs.ListLaws.{take_next}
 use Rattle.plir_copies.proofs.reading.operands.Goals as goal
 
 pub loop-i-preserved : goal.loop-i-preserved
@@ -10,7 +10,7 @@ loop-i-preserved g c =
     let s = c.args.ctx.now in
     let x = c.get_operand.result in (
       c.in_ok-push.ensures.items ∙ ap (λ z. z ++ x ∷ []) c.loop-i.invariant.0
-          ∙ sym (take-next (operands_of s c.args.op) c.loop-i.i x c.get_operand.ensures.value),
+          ∙ sym (take_next (operands_of s c.args.op) c.loop-i.i x c.get_operand.ensures.value),
       subst (All (IsValueLive s)) (sym c.in_ok-push.ensures.items)
           (All-push (IsValueLive s) c.loop-i.operands.items x c.loop-i.invariant.1 c.get_operand.ensures.live),
     )

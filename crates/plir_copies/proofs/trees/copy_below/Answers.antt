@@ -2,11 +2,24 @@ use Rattle.std.proofs.Common.{◌≡◌, ◌∙◌, List, ap, arith, length, ref
 use Rattle.std.proofs.lemmas.Result.{err_from_is_err_and}
 use Rattle.std.specs.Prelude.{slice_get}
 use Rattle.plir_copies.specs.declared.trees.Twin.{Twin}
-use Rattle.plir_copies.specs.Twins.{IsCopying}
+use Rattle.plir_copies.specs.Twins.{IsCopying, IsTwin}
 use Rattle.plir_copies.proofs.Below.{all-dropped, all-taken, bare-at, full-tree, refused, step, step-within, twin-at}
 use Rattle.plir_copies.proofs.Below.{within-live}
 use Rattle.plir_copies.proofs.Twins.{holds-kind, twin-apart}
+use Rattle.plir_copies.proofs.trees.copy_below.Given.{Over}
+use Rattle.plir_copies.proofs.trees.copy_below.Goals.{After-twin_at-twin}
 use Rattle.plir_copies.proofs.trees.copy_below.Goals as goal
+
+-- the node that comes next, with its copy
+next : (g : Over) (c : After-twin_at-twin g) → slice_get c.nodes.twins.items c.nodes.done ≡ Some c.twin_at-twin.result
+next g c =
+    subst (λ (l : List Twin). slice_get l c.nodes.done ≡ Some c.twin_at-twin.result) c.as_slice.ensures.value
+    c.twin_at-twin.ensures
+
+next-twin : (g : Over) (c : After-twin_at-twin g) → IsTwin c.requires.0 c.nodes.ctx c.twin_at-twin.result
+next-twin g c =
+    twin-at c.requires.0 c.nodes.ctx c.requires.1 c.requires.2 c.nodes.twins.items c.nodes.done
+    (c.nodes.invariant.copying c.requires.0 c.requires.1 c.requires.2 c.requires.3) c.twin_at-twin.result (next g c)
 
 pub nodes-init : goal.nodes-init
 nodes-init g c = record {
@@ -23,86 +36,41 @@ twin_at-twin-requires g c =
 
 pub copy_children-requires-clause-live : goal.copy_children-requires-clause-live
 copy_children-requires-clause-live g c =
-    let t = c.nodes.ctx in
-    let k = c.nodes.done in
-    let ws = c.nodes.twins.items in
-    let w = c.twin_at-twin.result in
-    let at : slice_get ws k ≡ Some w =
-    subst (λ (l : List Twin). slice_get l k ≡ Some w) c.as_slice.ensures.value c.twin_at-twin.ensures in
-    let s = c.requires.0 in
-    let h = c.nodes.invariant.copying s c.requires.1 c.requires.2 c.requires.3 in
-    h.made.keeps.live w.node (twin-at s t c.requires.1 c.requires.2 ws k h w at).live
+    let h = c.nodes.invariant.copying c.requires.0 c.requires.1 c.requires.2 c.requires.3 in
+    h.made.keeps.live c.twin_at-twin.result.node
+    (next-twin g (goal.at.copy_children-requires-clause-live g c).After-twin_at-twin).live
 
 pub copy_children-requires-clause-copy_live : goal.copy_children-requires-clause-copy_live
 copy_children-requires-clause-copy_live g c =
-    let t = c.nodes.ctx in
-    let k = c.nodes.done in
-    let ws = c.nodes.twins.items in
-    let w = c.twin_at-twin.result in
-    let at : slice_get ws k ≡ Some w =
-    subst (λ (l : List Twin). slice_get l k ≡ Some w) c.as_slice.ensures.value c.twin_at-twin.ensures in
-    let s = c.requires.0 in
-    let h = c.nodes.invariant.copying s c.requires.1 c.requires.2 c.requires.3 in
-    (twin-at s t c.requires.1 c.requires.2 ws k h w at).copy_live
+    (next-twin g (goal.at.copy_children-requires-clause-copy_live g c).After-twin_at-twin).copy_live
 
 pub copy_children-requires-clause-kind : goal.copy_children-requires-clause-kind
 copy_children-requires-clause-kind g c =
-    let t = c.nodes.ctx in
-    let k = c.nodes.done in
-    let ws = c.nodes.twins.items in
-    let w = c.twin_at-twin.result in
-    let at : slice_get ws k ≡ Some w =
-    subst (λ (l : List Twin). slice_get l k ≡ Some w) c.as_slice.ensures.value c.twin_at-twin.ensures in
-    let s = c.requires.0 in
-    let h = c.nodes.invariant.copying s c.requires.1 c.requires.2 c.requires.3 in
-    holds-kind s t w.node w.copy (twin-at s t c.requires.1 c.requires.2 ws k h w at).holds
+    holds-kind c.requires.0 c.nodes.ctx c.twin_at-twin.result.node c.twin_at-twin.result.copy
+    (next-twin g (goal.at.copy_children-requires-clause-kind g c).After-twin_at-twin).holds
 
 pub copy_children-requires-clause-apart : goal.copy_children-requires-clause-apart
 copy_children-requires-clause-apart g c =
-    let t = c.nodes.ctx in
-    let k = c.nodes.done in
-    let ws = c.nodes.twins.items in
-    let w = c.twin_at-twin.result in
-    let at : slice_get ws k ≡ Some w =
-    subst (λ (l : List Twin). slice_get l k ≡ Some w) c.as_slice.ensures.value c.twin_at-twin.ensures in
-    let s = c.requires.0 in
-    let h = c.nodes.invariant.copying s c.requires.1 c.requires.2 c.requires.3 in
-    twin-apart s t w (twin-at s t c.requires.1 c.requires.2 ws k h w at)
+    twin-apart c.requires.0 c.nodes.ctx c.twin_at-twin.result
+    (next-twin g (goal.at.copy_children-requires-clause-apart g c).After-twin_at-twin)
 
 pub copy_children-requires-clause-leaf : goal.copy_children-requires-clause-leaf
 copy_children-requires-clause-leaf g c =
-    let t = c.nodes.ctx in
-    let k = c.nodes.done in
-    let ws = c.nodes.twins.items in
-    let w = c.twin_at-twin.result in
-    let at : slice_get ws k ≡ Some w =
-    subst (λ (l : List Twin). slice_get l k ≡ Some w) c.as_slice.ensures.value c.twin_at-twin.ensures in
-    let s = c.requires.0 in
-    let h = c.nodes.invariant.copying s c.requires.1 c.requires.2 c.requires.3 in
-    bare-at s t c.requires.1 c.requires.2 ws k h w at
+    bare-at c.requires.0 c.nodes.ctx c.requires.1 c.requires.2 c.nodes.twins.items c.nodes.done
+    (c.nodes.invariant.copying c.requires.0 c.requires.1 c.requires.2 c.requires.3) c.twin_at-twin.result
+    (next g (goal.at.copy_children-requires-clause-leaf g c).After-twin_at-twin)
 
 pub returns-in_err-copy_children-clause-made : goal.returns-in_err-copy_children-clause-made
 returns-in_err-copy_children-clause-made g c =
-    let t = c.nodes.ctx in
-    let k = c.nodes.done in
-    let ws = c.nodes.twins.items in
-    let w = c.twin_at-twin.result in
-    let at : slice_get ws k ≡ Some w =
-    subst (λ (l : List Twin). slice_get l k ≡ Some w) c.as_slice.ensures.value c.twin_at-twin.ensures in
-    λ s root copy x. refused s t root copy ws k (c.nodes.invariant.copying s root copy x) c.copy_children.new.ctx w at
+    let at = next g (goal.at.returns-in_err-copy_children-clause-made g c).After-twin_at-twin in
+    λ s root copy x. refused s c.nodes.ctx root copy c.nodes.twins.items c.nodes.done
+    (c.nodes.invariant.copying s root copy x) c.copy_children.new.ctx c.twin_at-twin.result at
     c.nodes.invariant.formed.stored c.in_err-copy_children.ensures.grown
 
 pub nodes-smaller : goal.nodes-smaller
 nodes-smaller g c =
-    let t = c.nodes.ctx in
-    let k = c.nodes.done in
-    let ws = c.nodes.twins.items in
-    let w = c.twin_at-twin.result in
-    let at : slice_get ws k ≡ Some w =
-    subst (λ (l : List Twin). slice_get l k ≡ Some w) c.as_slice.ensures.value c.twin_at-twin.ensures in
-    let s = c.requires.0 in
-    let h = c.nodes.invariant.copying s c.requires.1 c.requires.2 c.requires.3 in
-    let bound = within-live s t c.requires.1 c.requires.2 ws k h c.args.ctx.now
+    let bound = within-live c.requires.0 c.nodes.ctx c.requires.1 c.requires.2 c.nodes.twins.items c.nodes.done
+    (c.nodes.invariant.copying c.requires.0 c.requires.1 c.requires.2 c.requires.3) c.args.ctx.now
     (c.contexts_stand.ensures c.args.ctx.now c.stands.ensures.whole).measured c.requires.3.made.keeps.live in
     omega (arith, bound, c.nodes-test.true, c.len.ensures)
 
@@ -112,16 +80,15 @@ nodes-preserved g c =
     let k = c.nodes.done in
     let ws = c.nodes.twins.items in
     let w = c.twin_at-twin.result in
-    let at : slice_get ws k ≡ Some w =
-    subst (λ (l : List Twin). slice_get l k ≡ Some w) c.as_slice.ensures.value c.twin_at-twin.ensures in
-    let s = c.requires.0 in
-    let h = c.nodes.invariant.copying s c.requires.1 c.requires.2 c.requires.3 in
     let u = c.copy_children.new.ctx in
     let now = c.copy_children.new.twins.items in
     let e = c.in_ok-copy_children.ensures in
+    let copying = c.nodes.invariant.copying in
+    let at = next g (goal.at.nodes-preserved g c).After-twin_at-twin in
     record {
-      within = step-within s t c.requires.1 c.requires.2 ws k h t u now w at e.ok;
-      copying = λ s root copy x. step s t root copy ws k (c.nodes.invariant.copying s root copy x) u now w at
+      within = step-within c.requires.0 t c.requires.1 c.requires.2 ws k
+          (copying c.requires.0 c.requires.1 c.requires.2 c.requires.3) t u now w at e.ok;
+      copying = λ s root copy x. step s t root copy ws k (copying s root copy x) u now w at
           c.nodes.invariant.formed.stored (c.contexts_stand.ensures u e.whole).forest e.grown e.types e.come e.ok;
       types = e.types ∙ c.nodes.invariant.types;
       formed = e.whole;
@@ -144,12 +111,7 @@ returns-clause-made g c =
 
 pub returns-in_err-copy_children-clause-full : goal.returns-in_err-copy_children-clause-full
 returns-in_err-copy_children-clause-full g c =
-    let t = c.nodes.ctx in
-    let k = c.nodes.done in
-    let ws = c.nodes.twins.items in
-    let w = c.twin_at-twin.result in
-    let at : slice_get ws k ≡ Some w =
-    subst (λ (l : List Twin). slice_get l k ≡ Some w) c.as_slice.ensures.value c.twin_at-twin.ensures in
+    let at = next g (goal.at.returns-in_err-copy_children-clause-full g c).After-twin_at-twin in
     let p = err_from_is_err_and c.from_residual.result c.from_residual.ensures.1 in
-    rw (p.1, p.2) (λ e s root copy x. full-tree s t root copy ws k (c.nodes.invariant.copying s root copy x) w at
-    (c.in_err-copy_children.ensures.full e))
+    rw (p.1, p.2) (λ e s root copy x. full-tree s c.nodes.ctx root copy c.nodes.twins.items c.nodes.done
+    (c.nodes.invariant.copying s root copy x) c.twin_at-twin.result at (c.in_err-copy_children.ensures.full e))

@@ -1,13 +1,13 @@
 use Rattle.std.proofs.Common.{◌∙◌, ap, sym}
 use Rattle.std.specs.Option.{option_or}
 use Rattle.plir_copies.specs.Images.{images}
-use Rattle.plir_copies.proofs.Lists.{on-err}
+use Rattle.plir_copies.specs.RefusalLaws.{on_err}
 use Rattle.plir_copies.proofs.Lookups.{value_found, value_same, ptr_found, ptr_same}
 use Rattle.plir_copies.proofs.value_map.ValueMap.extend.Goals as goal
 
 pub returns-in_err-reserve-2-clause-err : goal.returns-in_err-reserve-2-clause-err
 returns-in_err-reserve-2-clause-err c =
-    on-err c.from_residual-in_err-reserve-2.result (λ i. record {
+    on_err c.from_residual-in_err-reserve-2.result (λ i. record {
       value = λ x. value_same c.args.self.now.values c.reserve.new.self c.in_ok-reserve.ensures.entries.2 x i;
       block = λ x. ptr_same c.args.self.now.blocks c.reserve-2.new.self c.in_err-reserve-2.ensures.entries.2 x i;
       call = (images c.args.self.now).call;
