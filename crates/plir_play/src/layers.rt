@@ -10,7 +10,7 @@ use plir_text_calls::{print, read, roundtrip};
 use plir_walk_calls::{copies, inline, walk};
 use std::alloc::Global;
 
-// A layer of the library, whose calls a script makes.
+/// A layer of the library, whose calls a script makes.
 #[derive(Clone, Copy)]
 enum Layer {
     Core,

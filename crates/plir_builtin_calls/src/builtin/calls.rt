@@ -11,7 +11,7 @@ use plir_data::OpSet;
 use plir_scripts::{Bench, Layer, Line, Mismatch, NodeCalls, ScriptSet, Stop, play};
 use std::alloc::Global;
 
-// What a line asks for.
+/// What a line asks for.
 #[derive(Clone, Copy)]
 enum Call {
     /// Something of tables.
@@ -28,7 +28,7 @@ enum Call {
     OnNodes,
 }
 
-// What holds of lists of edits and of names, and is no matter of the nodes of a script.
+/// What holds of lists of edits and of names, and is no matter of the nodes of a script.
 #[derive(Clone, Copy)]
 enum Claim {
     /// `names`: an operation tells the name that it uses.

@@ -17,7 +17,7 @@ use plir_core::{Context, IRNode, OpInsertionPoint, Operation, Ptr};
 use plir_data::{AttrObj, OpSet};
 use plir_scripts::{Bench, Line, Made, Stop, grant_memory, refuse_memory, split_word};
 
-// A call through the collection.
+/// A call through the collection.
 #[derive(Clone, Copy)]
 enum SessionCall {
     /// `module NAME` makes a module.
@@ -34,7 +34,7 @@ enum SessionCall {
     OnSymbol(OnSymbol),
 }
 
-// A call on the table of an operation and a symbol.
+/// A call on the table of an operation and a symbol.
 #[derive(Clone, Copy)]
 enum OnSymbol {
     /// `find OP OP` looks the name of the symbol up.

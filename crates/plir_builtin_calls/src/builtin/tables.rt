@@ -50,7 +50,7 @@ pub enum EditWord {
     Unknown,
 }
 
-// Where a symbol is inserted.
+/// Where a symbol is inserted.
 #[derive(Clone, Copy)]
 enum PointWord {
     /// No word.

@@ -15,7 +15,7 @@ impl ScriptKind for PairKind {
     }
 }
 
-// What a line asks for.
+/// What a line asks for.
 #[derive(Clone, Copy)]
 enum Call {
     /// `verify OP` verifies a tree.

@@ -9,7 +9,7 @@ use std::alloc::Global;
 // How many new blocks get names at most without asking for memory.
 const MAX_NEW: usize = 100;
 
-// What a line asks for.
+/// What a line asks for.
 #[derive(Clone, Copy)]
 enum Call {
     /// `drop-argument BLOCK PLACE` drops an argument.
@@ -21,7 +21,7 @@ enum Call {
     OnNodes,
 }
 
-// What is told of arguments that were dropped.
+/// What is told of arguments that were dropped.
 #[derive(Clone, Copy)]
 enum Told {
     /// Whether there was any.

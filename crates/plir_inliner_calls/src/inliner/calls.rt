@@ -4,7 +4,7 @@ use flow_dialect::kinds::FlowSet;
 use plir_scripts::{Bench, Layer, Line, Mismatch, NodeCalls, Stop, play};
 use std::alloc::Global;
 
-// What a line asks for.
+/// What a line asks for.
 #[derive(Clone, Copy)]
 enum Call {
     /// `inline-below ROOT BUDGET` inlines calls, and tells how many; `inline-all-below ROOT BUDGET` only that it ended.

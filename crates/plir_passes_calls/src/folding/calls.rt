@@ -21,7 +21,7 @@ impl ScriptKind for ToyKind {
     }
 }
 
-// What a line asks for.
+/// What a line asks for.
 #[derive(Clone, Copy)]
 enum Call {
     /// `fold OP` folds constants.

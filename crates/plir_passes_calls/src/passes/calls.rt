@@ -23,7 +23,7 @@ impl ScriptKind for ToyKind {
     }
 }
 
-// What a line asks for.
+/// What a line asks for.
 #[derive(Clone, Copy)]
 enum Call {
     /// `eliminate OP` eliminates dead code.

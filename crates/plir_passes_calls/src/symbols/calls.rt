@@ -27,7 +27,7 @@ impl ScriptKind for HoldingKind {
     }
 }
 
-// What a line asks for.
+/// What a line asks for.
 #[derive(Clone, Copy)]
 enum Call {
     /// `session CALL; CALL; ..`: calls through one collection of tables.

@@ -9,7 +9,7 @@ use plir_scripts::{Answer, Bench, Line, Made, Stop, split_word};
 use plir_symbols::{CallGraph, SymbolNames, call_graph, eliminate_dead_symbols};
 use std::alloc::Global;
 
-// A call through the collection.
+/// A call through the collection.
 #[derive(Clone, Copy)]
 enum SessionCall {
     /// `lookup OP NAME` looks a name up in the table of an operation.
@@ -20,7 +20,7 @@ enum SessionCall {
     Ask(Question),
 }
 
-// A question to a call graph.
+/// A question to a call graph.
 #[derive(Clone, Copy)]
 enum Question {
     /// `edges OP`: which operations use which symbols.
