@@ -68,12 +68,12 @@ module _ (w : WalkConfig) (s : Shape) (r : IRNode) where
           let y : c ≡ cursor_at w (entered w s k) = same_Some c (cursor_at w (entered w s k)) x in
           subst (λ v. IsHop w s r n false (Some v)) (sym y) (enter-hops n k (order_of w k) refl step, refl)
 
-  pub leave-up : (n a : IRNode) → same n r ≡ false → next_of w s n ≡ None → s.parent n ≡ Some a
+  leave-up : (n a : IRNode) → same n r ≡ false → next_of w s n ≡ None → s.parent n ≡ Some a
       → step_of w s r n false ≡ Some (a, false)
   leave-up n a d p q = left-is n None (Some a) d p q
 
   -- none entered behind a node: it has no next sibling
-  pub none-next : (n : IRNode) (a : Option (IRNode × Bool × Bool))
+  none-next : (n : IRNode) (a : Option (IRNode × Bool × Bool))
       → a ≡ option_map (cursor_at w) (option_map (entered w s) (next_of w s n)) → a ≡ None → next_of w s n ≡ None
   none-next n a e z = go (next_of w s n) refl (sym z ∙ e)
     where
@@ -81,6 +81,12 @@ module _ (w : WalkConfig) (s : Shape) (r : IRNode) where
           → next_of w s n ≡ None
       go None q x = q
       go (Some k) q x = absurd (none-some (cursor_at w (entered w s k)) x)
+
+  -- a node that is not the root, where none was entered behind it, is left for its parent
+  pub left-up : (n a : IRNode) (o : Option (IRNode × Bool × Bool))
+      → o ≡ option_map (cursor_at w) (option_map (entered w s) (next_of w s n)) → o ≡ None → same n r ≡ false
+      → s.parent n ≡ Some a → step_of w s r n false ≡ Some (a, false)
+  left-up n a o e z apart up = leave-up n a apart (none-next n o e z) up
 
   -- a hop from further up is one from further down
   pub climbed : (n m : IRNode) → ((o : Option (IRNode × Bool)) → Hops w s r m false o → Hops w s r n false o)

@@ -1,7 +1,7 @@
 -- Names that are taken out to be edited, and put back.
 use Rattle.std.proofs.Common.{◌≡◌, ℕ, Bool, true, false, cond, List, [], Option, Some, None, IsSome, is_some, refl, sym}
 use Rattle.std.proofs.Common.{ap, subst, ◌∙◌}
-use Rattle.std.specs.Prelude.{unwrap_or, option_and_then}
+use Rattle.std.specs.Prelude.{unwrap_or, option_and_then, option_map}
 use Rattle.std.proofs.lemmas.Option.{none-some}
 use Rattle.plir_data.specs.AttrView.{leaf, unit, given_names}
 use Rattle.plir_data.specs.Dictionary.{IsDictionary, dict_get, dict_put, dict_without}
@@ -17,9 +17,16 @@ use Rattle.plir_data.specs.Keys.{names_key}
 use Rattle.plir_walk.proofs.NamedStores.{attributes-same, attributes-id, attributes-live, attributes-after}
 use Rattle.plir_walk.proofs.NamedStores.{attributes-then}
 
-module _ {K A T : Type 0} (s t : ContextView K A T) (e : DefiningEntity) (ns : Names)
-    (taken : Some (leaf (given_names ns)) ≡ dict_get (attributes_at s e) names_key)
-    (after : t ≡ with_attributes s e (λ es. dict_put es names_key (leaf unit))) where
+module _ {K A T : Type 0} (s t : ContextView K A T) (e : DefiningEntity) (ns : Names) {names : Option Names}
+    (some : names ≡ Some ns)
+    (found : option_map (λ ns. leaf (given_names ns)) names ≡ dict_get (attributes_at s e) names_key)
+    (left : IsSome names → t ≡ with_attributes s e (λ es. dict_put es names_key (leaf unit))) where
+  taken : Some (leaf (given_names ns)) ≡ dict_get (attributes_at s e) names_key
+  taken = sym (ap (option_map (λ ns. leaf (given_names ns))) some) ∙ found
+
+  after : t ≡ with_attributes s e (λ es. dict_put es names_key (leaf unit))
+  after = left (subst IsSome (sym some) refl)
+
   -- the node is live still, and something stands under the key
   pub taken-live : IsLive s (entity_node e) → IsLive t (entity_node e)
   taken-live l = subst (λ z. IsLive z (entity_node e)) (sym after) (attributes-live s e

@@ -9,7 +9,7 @@ use Rattle.plir_core.specs.Forest.{IsForest, Shape}
 use Rattle.plir_walk.specs.declared.config.WalkConfig.{WalkConfig}
 use Rattle.plir_walk.specs.declared.interruptible.WalkContinue.TheVariants.{Advance}
 use Rattle.plir_walk.specs.Config.{direction_of, order_of}
-use Rattle.plir_walk.specs.OperationSteps.{IsOperationHop, IsPassedBy, OperationHops, Sinks}
+use Rattle.plir_walk.specs.OperationSteps.{IsOperationHop, IsPassedBy, OperationHops, Sinks, SinksIf}
 use Rattle.plir_walk.specs.OperationWalks.{AtEachNode, is_operation, OperationRelation}
 use Rattle.plir_walk.specs.Step.{cursor_at, due_at, enter_or_leave, first_of, IsHop, IsNotDue, Run, taken}
 use Rattle.plir_walk.specs.Walked.{IsLawful, Walked}
@@ -33,6 +33,17 @@ module _ (w : WalkConfig) (s : Shape) where
       → Sinks w s n c
   sink-more n k c e p h root =
       one-more w s root (IsPassedBy w) n true k true (Some c) (ap (λ v. Some (enter_or_leave v n)) e) (inl p) (h root)
+
+  -- a way down that is asked for, from a node that is known
+  pub sinks-if : {b : Bool} {n m : IRNode} (o : IRNode × Bool) → b ≡ true → n ≡ m → Sinks w s m o → SinksIf b w s n o
+  sinks-if {b} {n} {m} o e f h =
+      subst (λ z. SinksIf z w s n o) (sym e) (subst (λ z. Sinks w s z o) (sym f) h)
+
+  -- and what was come to where it was asked for
+  pub sunk : {b en : Bool} {n : IRNode} (o : IRNode × Bool) → b ≡ true → o.1 ≡ en → SinksIf b w s n o →
+      Sinks w s n (o.0, en)
+  sunk {b} {en} {n} o e f h =
+      subst (λ z. Sinks w s n (o.0, z)) f (let down : Sinks w s n o = subst (λ z. SinksIf z w s n o) e h in down)
 
   module _ (r : IRNode) where
     -- a run goes on from where another ends

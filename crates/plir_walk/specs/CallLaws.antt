@@ -1,7 +1,9 @@
 -- Laws of the calls of a walk, for the proofs of passes: what each call keeps is kept from entry to exit; what each
 -- call establishes at its node, and later calls leave, holds at the exit of all nodes that the walk has called; and a
 -- walk that was broken off leaves what the call left that broke it.
-use Rattle.std.proofs.Common.{◌≢◌, List, [], ◌∷◌, ◌++◌, inl, inr, subst}
+use Rattle.std.proofs.Common.{◌≢◌, List, [], ◌∷◌, ◌++◌, inl, inr, refl, subst}
+use Rattle.std.specs.Borrow.{Bor, MutBor}
+use Rattle.std.specs.Fn.{Shared}
 use Rattle.std.specs.declared.ops.ControlFlow.{ControlFlow}
 use Rattle.std.specs.declared.ops.ControlFlow.TheVariants.{Continue, Break}
 use Rattle.plir_store.specs.Members.{Has}
@@ -9,9 +11,39 @@ use Rattle.plir_core.specs.declared.ptr.IRNode.{IRNode}
 use Rattle.plir_walk.specs.declared.config.WalkConfig.{WalkConfig}
 use Rattle.plir_walk.specs.declared.interruptible.WalkContinue.{WalkContinue}
 use Rattle.plir_walk.specs.declared.interruptible.WalkContinue.TheVariants.{Skip}
-use Rattle.plir_walk.specs.Calls.{Call, Relation, Chain, nodes_of}
+use Rattle.plir_walk.specs.Calls.{Call, CallsBack, ReadsBack, Relation, Chain, nodes_of}
 use Rattle.plir_walk.specs.Tree.{Tree, IsUnder}
 use Rattle.plir_walk.specs.Walk.{IsDue, Answers, LastBreaks}
+
+-- a call of a callback, by what it was handed and what it left
+pub called-back : {F C S N R : Type 0} (g : Shared F (MutBor C × (MutBor S × (N × Unit {0})))
+    (R × (MutBor C × (MutBor S × Unit {0})))) (f : F) {context context' : MutBor C} {state state' : MutBor S} {n : N}
+    {a : R} → g.post f (context, (state, (n, tt))) (a, (context', (state', tt))) →
+    CallsBack g f context.now state.now n a context'.now state'.now
+called-back g f {context} {context'} {state} {state'} met = record {
+  context = context;
+  state = state;
+  context_left = context';
+  state_left = state';
+  shows = (refl, refl);
+  leaves = (refl, refl);
+  met = met;
+}
+
+-- the same of a callback that only reads the context
+pub read-back : {F C S N R : Type 0} (g : Shared F (Bor C × (MutBor S × (N × Unit {0}))) (R × (MutBor S × Unit {0})))
+    (f : F) {context : Bor C} {state state' : MutBor S} {n : N} {a : R} →
+    g.post f (context, (state, (n, tt))) (a, (state', tt)) →
+    ReadsBack g f context.now state.now n a context.now state'.now
+read-back g f {context} {state} {state'} met = record {
+  context = context;
+  state = state;
+  state_left = state';
+  stays = refl;
+  shows = (refl, refl);
+  leaves = refl;
+  met = met;
+}
 
 -- A relation from one context and state to another composes: it holds of each with itself, and of what two steps make
 -- of it if it holds of both.

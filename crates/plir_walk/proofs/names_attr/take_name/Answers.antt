@@ -1,4 +1,4 @@
-use Rattle.std.proofs.Common.{[], Ok, IsSome, arith, refl, sym, ap, subst, ◌∙◌}
+use Rattle.std.proofs.Common.{[], Ok, arith, sym, ap, ◌∙◌}
 use Rattle.std.specs.Prelude.{option_map}
 use Rattle.plir_data.specs.AttrView.{leaf, given_names}
 use Rattle.plir_walk.specs.GivenNames.{all_unset, names_at, with_names, remove_name}
@@ -8,23 +8,21 @@ use Rattle.plir_walk.proofs.names_attr.take_name.Goals as goal
 
 pub put_back-requires-clause-live : goal.put_back-requires-clause-live
 put_back-requires-clause-live g c =
-    let taken = sym (ap (option_map (λ ns. leaf (given_names ns))) c.in-Some.is) ∙ c.in_ok-names.ensures.taken in
-    let after = c.in_ok-names.ensures.after (subst IsSome (sym c.in-Some.is) refl) in
-    taken-live c.args.ctx.now c.take_names.new.ctx c.args.entity c.in-Some.names taken after c.requires
+    taken-live c.args.ctx.now c.take_names.new.ctx c.args.entity c.in-Some.names c.in-Some.is
+    c.in_ok-names.ensures.taken c.in_ok-names.ensures.after c.requires
 
 pub put_back-requires-clause-present : goal.put_back-requires-clause-present
 put_back-requires-clause-present g c =
-    let taken = sym (ap (option_map (λ ns. leaf (given_names ns))) c.in-Some.is) ∙ c.in_ok-names.ensures.taken in
-    let after = c.in_ok-names.ensures.after (subst IsSome (sym c.in-Some.is) refl) in
-    taken-present c.args.ctx.now c.take_names.new.ctx c.args.entity c.in-Some.names taken after
+    taken-present c.args.ctx.now c.take_names.new.ctx c.args.entity c.in-Some.names c.in-Some.is
+    c.in_ok-names.ensures.taken c.in_ok-names.ensures.after
 
 pub returns-in-Some-clause-ok : goal.returns-in-Some-clause-ok
 returns-in-Some-clause-ok g c =
-    let taken = sym (ap (option_map (λ ns. leaf (given_names ns))) c.in-Some.is) ∙ c.in_ok-names.ensures.taken in
-    let after = c.in_ok-names.ensures.after (subst IsSome (sym c.in-Some.is) refl) in
     let removed = c.remove_from.ensures ∙ ap (λ z. remove_name z c.args.i) (c.names_mut.ensures.names ∙ sym
-    (taken-names c.args.ctx.now c.take_names.new.ctx c.args.entity c.in-Some.names taken after)) in
-    c.put_back.ensures.after ∙ names-put c.args.ctx.now c.take_names.new.ctx c.args.entity c.in-Some.names taken after
+    (taken-names c.args.ctx.now c.take_names.new.ctx c.args.entity c.in-Some.names c.in-Some.is
+    c.in_ok-names.ensures.taken c.in_ok-names.ensures.after)) in
+    c.put_back.ensures.after ∙ names-put c.args.ctx.now c.take_names.new.ctx c.args.entity c.in-Some.names c.in-Some.is
+    c.in_ok-names.ensures.taken c.in_ok-names.ensures.after
     c.take_names.ensures.ascending c.remove_from.new.names.items ∙ ap (with_names c.args.ctx.now c.args.entity)
     removed
 

@@ -1,5 +1,6 @@
-use Rattle.std.proofs.Common.{rules, ◌≡◌, true, refl, sym, subst}
+use Rattle.std.proofs.Common.{rules, ◌≡◌, true, sym, subst}
 use Rattle.plir_core.specs.declared.ptr.IRNode.TheVariants.{Operation}
+use Rattle.plir_walk.specs.CallLaws.{read-back}
 use Rattle.plir_walk.specs.Calls.{ReadsBack}
 use Rattle.plir_walk.specs.OperationWalks.{AtEachNode}
 use Rattle.plir_walk.specs.Step.{IsVisited}
@@ -10,19 +11,9 @@ returns-in-Operation g c =
     let look = g.C.NodeLinks.look in
     let e = c.args.ctx.now in
     let st = c.args.state.now in
-    let post = ReadsBack g.F.Fn c.args.callback.now in
+    let post = AtEachNode (ReadsBack g.F.Fn c.args.callback.now) in
     let due : c.args.due ≡ true = search rules in
-    let made : post e st c.in-Operation.op c.callback.result e c.callback.new.arg3 = record {
-      context = _;
-      state = _;
-      state_left = _;
-      stays = refl;
-      shows = (refl, refl);
-      leaves = refl;
-      met = c.callback.ensures;
-    } in
-    subst (λ n. IsVisited look (AtEachNode post) e st n c.args.due c.callback.result e c.callback.new.arg3)
+    subst (λ n. IsVisited look post e st n c.args.due c.callback.result e c.callback.new.arg3)
     (sym c.in-Operation.is)
-    (subst (λ d. IsVisited look (AtEachNode post) e st (Operation c.in-Operation.op) d c.callback.result e
-    c.callback.new.arg3) (sym due)
-    (made, c.forest.ensures))
+    (subst (λ d. IsVisited look post e st (Operation c.in-Operation.op) d c.callback.result e c.callback.new.arg3)
+    (sym due) (read-back g.F.Fn c.args.callback.now c.callback.ensures, c.forest.ensures))
