@@ -1,5 +1,6 @@
--- An id names no kind but one that has it.
-use Rattle.std.proofs.Common.{◌≡◌, ℕ, List, Some, codes, sym, ap, ◌∙◌, inl, inr}
+-- An id names no kind but one that has it, and the id of a kind names that kind, if it names any.
+use Rattle.std.proofs.Common.{◌≡◌, ℕ, List, Some, codes, refl, sym, ap, ◌∙◌, inl, inr}
+use Rattle.std.specs.Prelude.{IsTrue, is_some}
 use Rattle.std.specs.Str.{bytes_eq}
 use Rattle.std.proofs.lemmas.Slice.Eq.{bytes_eq-Decides}
 use Rattle.std.proofs.lemmas.Option.{same_Some, none-some}
@@ -22,3 +23,9 @@ has_its_id i k e = elim (chosen (bytes_eq i (codes "test.value")) _ _ _ e) [
     ]
   ]
 ]
+
+pub finds_it : (k : TestKind) → IsTrue (is_some (kind_of (id_of k))) → kind_of (id_of k) ≡ Some k
+finds_it Value t = refl
+finds_it Branch t = refl
+finds_it Open t = refl
+finds_it Closed t = refl

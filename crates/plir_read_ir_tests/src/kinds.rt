@@ -59,7 +59,7 @@ impl OwnKind for TestKind {
 
 impl ReadKind for TestKind {
     ghost use Rattle.plir_read_ir_tests.specs.Kinds.{kind_of, is_closed};
-    ghost use Rattle.plir_read_ir_tests.specs.IdLaws.{has_its_id};
+    ghost use Rattle.plir_read_ir_tests.specs.IdLaws.{finds_it, has_its_id};
 
     ghost find = { kind_of };
 
@@ -84,4 +84,6 @@ impl ReadKind for TestKind {
     }
 
     ghost found_has_id = { has_its_id };
+
+    ghost found_by_its_id = { finds_it };
 }

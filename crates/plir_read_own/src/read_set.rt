@@ -1,9 +1,12 @@
 //! Op sets whose operations are read.
-ghost use Rattle.std.specs.Prelude.{◌≡◌, ℕ, List, Option, Some, Bool};
+ghost use Rattle.std.specs.Prelude.{◌≡◌, ℕ, List, Option, Some, Bool, IsTrue, is_some};
 
 use plir_data::{KindSet, OpSet, OwnKind};
 
 /// An op set whose operations can be read from texts.
+///
+/// An id names no kind but one that has it, and the id of a kind names that kind or none: so no two kinds that texts
+/// name have one id. A kind that no text names is allowed: its id names none.
 pub trait ReadSet: OpSet {
     // The kind that an id names.
     ghost find_kind: { List ℕ → Option Self.Kind };
@@ -22,9 +25,15 @@ pub trait ReadSet: OpSet {
 
     // An id names no kind but one that has it.
     ghost found_has_id: { (i : List ℕ) (k : Self.Kind) → find_kind i ≡ Some k → Self.kind_id k ≡ i };
+
+    // The id of a kind names that kind, if it names any.
+    ghost found_by_its_id: { (k : Self.Kind) → IsTrue (is_some (find_kind (Self.kind_id k))) →
+        find_kind (Self.kind_id k) ≡ Some k };
 }
 
 /// Kinds of operations that can be read from texts: [`KindSet`] makes a [`ReadSet`] of them.
+///
+/// An id names no kind but one that has it, and the id of a kind names that kind or none, as [`ReadSet`] says.
 pub trait ReadKind: OwnKind {
     // The kind that an id names.
     ghost find: { List ℕ → Option Self };
@@ -43,6 +52,9 @@ pub trait ReadKind: OwnKind {
 
     // An id names no kind but one that has it.
     ghost found_has_id: { (i : List ℕ) (k : Self) → find i ≡ Some k → Self.id k ≡ i };
+
+    // The id of a kind names that kind, if it names any.
+    ghost found_by_its_id: { (k : Self) → IsTrue (is_some (find (Self.id k))) → find (Self.id k) ≡ Some k };
 }
 
 impl<K: ReadKind> ReadSet for KindSet<K> {
@@ -59,4 +71,6 @@ impl<K: ReadKind> ReadSet for KindSet<K> {
     }
 
     ghost found_has_id = { K.found_has_id };
+
+    ghost found_by_its_id = { K.found_by_its_id };
 }

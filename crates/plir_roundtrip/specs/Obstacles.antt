@@ -25,10 +25,6 @@ use Rattle.plir_roundtrip.specs.declared.obstacle.Obstacle.TheVariants.{Kind, Ty
 use Rattle.plir_roundtrip.specs.declared.reach.Body.{Body}
 use Rattle.plir_roundtrip.specs.declared.reach.Body.TheVariants.{Whole, Of, Outside}
 
--- no two kinds have one id
-abbrev pub AreIdsApart : {K : Type 0} → (id : K → List ℕ) → Type 0
-AreIdsApart {K} id = (k j : K) → id k ≡ id j → k ≡ j
-
 -- the operation at a node, if there is one and it is isolated
 abbrev pub as_isolated : {K A T : Type 0} → (isolated : K → Bool) → ContextView K A T → Option IRNode →
     Option (Ptr OperationKind)

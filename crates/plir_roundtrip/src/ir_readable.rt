@@ -5,8 +5,7 @@ ghost use Rattle.plir_core.specs.ContextView.{IsLive};
 ghost use Rattle.plir_core.specs.WellFormed.{IsWellFormed};
 ghost use Rattle.plir_roundtrip.specs.IrReadable.{AreIrReadable};
 ghost use Rattle.plir_roundtrip.specs.IrReadableUses.{IsIrReadable};
-ghost use Rattle.plir_roundtrip.specs.Obstacles.{AreIdsApart, IsFirstUnread, IsIrNodeReadable, IsNodeCounted};
-ghost use Rattle.plir_roundtrip.specs.Obstacles.{IsObstacle};
+ghost use Rattle.plir_roundtrip.specs.Obstacles.{IsFirstUnread, IsIrNodeReadable, IsNodeCounted, IsObstacle};
 ghost use Rattle.plir_roundtrip.specs.ReadableParts.{IsLookAnswer};
 ghost use Rattle.plir_roundtrip.specs.UsesWithin.{AreCounted};
 
@@ -23,8 +22,7 @@ use std::ops::ControlFlow;
 
 // Breaks a walk off at a node that cannot be read.
 fn look_at_node<D: ReadSet>(ctx: &Context<D>, node: IRNode) -> WalkResult<IRNode>
-    requires live { IsLive ctx.now node }
-    requires ids { AreIdsApart D.kind_id }
+    requires { IsLive ctx.now node }
     ensures { IsLookAnswer
         (IsIrNodeReadable D.OpSet D.find_kind ctx.now node × IsNodeCounted D.OpSet D.find_kind ctx.now node)
         (λ n. (n ≡ node) × (IsIrNodeReadable D.OpSet D.find_kind ctx.now n → ⊥)) result }
@@ -40,16 +38,14 @@ fn look_at_node<D: ReadSet>(ctx: &Context<D>, node: IRNode) -> WalkResult<IRNode
 // The first node at or under an operation that cannot be read, if there is one. The walk is a loop: no depth is too
 // great for it.
 fn find_unreadable<D: ReadSet>(ctx: &Context<D>, op: Ptr<Operation>) -> Option<IRNode>
-    requires live { IsLive ctx.now (AnyNode.Operation op) }
-    requires ids { AreIdsApart D.kind_id }
+    requires { IsLive ctx.now (AnyNode.Operation op) }
     ensures { MatchOption result
         (AreIrReadable D.OpSet D.find_kind ctx.now (AnyNode.Operation op) × AreCounted ctx.now (AnyNode.Operation op))
         (IsFirstUnread D.OpSet D.find_kind ctx.now op) }
 {
     ctx.stands();
     let look = |ctx: &Context<D>, _state: &mut (), node: IRNode| -> WalkResult<IRNode>
-        requires live { IsLive ctx.now node }
-        requires ids { AreIdsApart D.kind_id }
+        requires { IsLive ctx.now node }
         ensures { IsLookAnswer
             (IsIrNodeReadable D.OpSet D.find_kind ctx.now node × IsNodeCounted D.OpSet D.find_kind ctx.now node)
             (λ n. (n ≡ node) × (IsIrNodeReadable D.OpSet D.find_kind ctx.now n → ⊥)) result }
@@ -65,11 +61,10 @@ fn find_unreadable<D: ReadSet>(ctx: &Context<D>, op: Ptr<Operation>) -> Option<I
 ///
 /// What is told is what stands against it first. Looked at are the nodes at and under the operation, in the order of a
 /// walk; then the levels of the text; then what each operation uses, in the order of the walk: its operands, and its
-/// successors, from 0. No two kinds of the set may have one id. Takes no memory, and calls itself no deeper than 200
-/// levels; where an operand can be named is found by a climb, which has at most 600 steps in the tree.
+/// successors, from 0. Takes no memory, and calls itself no deeper than 200 levels; where an operand can be named is
+/// found by a climb, which has at most 600 steps in the tree.
 pub fn ir_obstacle<D: ReadSet>(ctx: &Context<D>, op: Ptr<Operation>) -> Option<Obstacle>
     requires live { IsLive ctx.now (AnyNode.Operation op) }
-    requires ids { AreIdsApart D.kind_id }
     ensures value { MatchOption result (IsIrReadable D.OpSet D.find_kind D.is_isolated ctx.now op)
         (IsObstacle D.OpSet D.find_kind ctx.now op D.is_isolated) }
     ensures whole { IsWellFormed D.attr_handles ctx.now }

@@ -6,7 +6,7 @@ ghost use Rattle.plir_attr_text.specs.Writable.{IsNameOrMark};
 ghost use Rattle.plir_read.specs.OpReading.{op_kind};
 ghost use Rattle.plir_read_ir.specs.IrGrammar.{own_kind};
 ghost use Rattle.plir_roundtrip.specs.IrReadable.{IsId, IsIrOpReadable, IsOwnReadable, IsUseReadable};
-ghost use Rattle.plir_roundtrip.specs.Obstacles.{AreIdsApart, AreTypesReadable, IsIrNodeReadable, IsKindNamed};
+ghost use Rattle.plir_roundtrip.specs.Obstacles.{AreTypesReadable, IsIrNodeReadable, IsKindNamed};
 ghost use Rattle.plir_roundtrip.specs.Obstacles.{IsNodeCounted, IsNodeNamed, IsUnreadAs};
 
 use crate::entries::are_entries_readable;
@@ -46,7 +46,6 @@ fn is_own_id(id: &str) -> bool
 
 // Whether the id of a kind is one, and names that kind in texts.
 fn is_kind_found<D: ReadSet>(kind: D::Kind) -> bool
-    requires ids { AreIdsApart D.kind_id }
     ensures { IsTrue result ↔ (IsId (D.kind_id kind) × (own_kind D.find_kind (D.kind_id kind) ≡ Some kind)) }
 {
     let id = D::kind_id(kind);
@@ -83,8 +82,7 @@ fn are_successors_labelled<D: ReadSet>(ctx: &Context<D>, op: Ptr<Operation>) -> 
 
 // Whether an operation of one's own kind can be read.
 fn is_own_readable<D: ReadSet>(ctx: &Context<D>, kind: D::Kind, op: Ptr<Operation>) -> bool
-    requires live { IsLive ctx.now (AnyNode.Operation op) }
-    requires ids { AreIdsApart D.kind_id }
+    requires { IsLive ctx.now (AnyNode.Operation op) }
     ensures { IsTrue result ↔ IsOwnReadable D.OpSet D.find_kind ctx.now kind op }
 {
     let are_entries = are_entries_readable(ctx, op.attributes(ctx));
@@ -95,8 +93,7 @@ fn is_own_readable<D: ReadSet>(ctx: &Context<D>, kind: D::Kind, op: Ptr<Operatio
 
 // Whether an operation of any kind can be read.
 fn is_ir_op_readable<D: ReadSet>(ctx: &Context<D>, op: Ptr<Operation>) -> bool
-    requires live { IsLive ctx.now (AnyNode.Operation op) }
-    requires ids { AreIdsApart D.kind_id }
+    requires { IsLive ctx.now (AnyNode.Operation op) }
     ensures { IsTrue result ↔ IsIrOpReadable D.OpSet D.find_kind ctx.now op }
 {
     match op.kind(ctx) {
@@ -110,8 +107,7 @@ fn is_ir_op_readable<D: ReadSet>(ctx: &Context<D>, op: Ptr<Operation>) -> bool
 
 /// Whether a node of any kind can be read, whatever stands below it. Nothing is asked of a region.
 pub(crate) fn is_ir_node_readable<D: ReadSet>(ctx: &Context<D>, node: IRNode) -> bool
-    requires live { IsLive ctx.now node }
-    requires ids { AreIdsApart D.kind_id }
+    requires { IsLive ctx.now node }
     ensures { IsTrue result ↔ IsIrNodeReadable D.OpSet D.find_kind ctx.now node }
 {
     match node {
@@ -135,8 +131,7 @@ pub(crate) fn count<D: ReadSet>(ctx: &Context<D>, node: IRNode) -> usize
 
 // Whether texts name the kind of an operation.
 fn is_kind_named<D: ReadSet>(ctx: &Context<D>, op: Ptr<Operation>) -> bool
-    requires live { IsLive ctx.now (AnyNode.Operation op) }
-    requires ids { AreIdsApart D.kind_id }
+    requires { IsLive ctx.now (AnyNode.Operation op) }
     ensures { IsTrue result ↔ IsKindNamed D.OpSet D.find_kind ctx.now (kind_of ctx.now op) }
 {
     match op.kind(ctx) {
@@ -150,8 +145,7 @@ fn is_kind_named<D: ReadSet>(ctx: &Context<D>, op: Ptr<Operation>) -> bool
 
 // The same of the operation at a node. Nothing is asked of a region and of a block.
 fn is_node_named<D: ReadSet>(ctx: &Context<D>, node: IRNode) -> bool
-    requires live { IsLive ctx.now node }
-    requires ids { AreIdsApart D.kind_id }
+    requires { IsLive ctx.now node }
     ensures { IsTrue result ↔ IsNodeNamed D.OpSet D.find_kind ctx.now node }
 {
     match node {
@@ -176,7 +170,6 @@ fn are_types_readable<D: ReadSet>(ctx: &Context<D>, node: IRNode) -> bool
 /// Why a node cannot be read that cannot.
 pub(crate) fn obstacle_at<D: ReadSet>(ctx: &Context<D>, node: IRNode) -> Obstacle
     requires live { IsLive ctx.now node }
-    requires ids { AreIdsApart D.kind_id }
     requires unread { IsIrNodeReadable D.OpSet D.find_kind ctx.now node → ⊥ }
     ensures { IsUnreadAs D.OpSet D.find_kind ctx.now node result }
 {

@@ -88,7 +88,7 @@ impl OwnKind for SampleKind {
 impl ReadKind for SampleKind {
     ghost use Rattle.std.specs.Prelude.{false};
     ghost use Rattle.sample_dialect.specs.Answers.{kind_of};
-    ghost use Rattle.sample_dialect.specs.IdLaws.{has_its_id};
+    ghost use Rattle.sample_dialect.specs.IdLaws.{finds_it, has_its_id};
 
     ghost find = { kind_of };
 
@@ -117,6 +117,8 @@ impl ReadKind for SampleKind {
     }
 
     ghost found_has_id = { has_its_id };
+
+    ghost found_by_its_id = { finds_it };
 }
 
 impl EffectKind for SampleKind {

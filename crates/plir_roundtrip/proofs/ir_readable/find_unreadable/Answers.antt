@@ -7,7 +7,7 @@ use Rattle.plir_roundtrip.proofs.ReadableCalls.{broke_off, went_on}
 use Rattle.plir_roundtrip.proofs.ir_readable.find_unreadable.Goals as goal
 
 pub walk_op-requires-clause-callable : goal.walk_op-requires-clause-callable
-walk_op-requires-clause-callable g c = λ d s n e st. (subst (λ z. IsLive z n) (sym e) st.live, c.requires.ids)
+walk_op-requires-clause-callable g c = λ d s n e st. subst (λ z. IsLive z n) (sym e) st.live
 
 pub returns-in-Break : goal.returns-in-Break
 returns-in-Break g c =
