@@ -20,6 +20,7 @@ pub mod NodesAsked
 pub mod PartLevels
 pub mod IrChildren
 pub mod Ids
+pub mod Headed
 pub mod ListsShown
 pub mod OwnShown
 pub mod FrontsShown

@@ -12,7 +12,7 @@
 --
 --   IrWritten      ir_term_of: an operation as it is written
 --   IrReadable     HasReadableText: what is asked of an operation, so that its text stands for it
---   TextsStanding  IrTextsStand: the text of an operation stands for it
+--   TextsStanding  IrTextsStand: the text of an operation stands for it; IrTextsArePrintable: it can be printed
 --   IrReadBack     IsIrRead: what the reader answers; IsIrReadBack: that it reads back what was printed
 --   SameIrTree     IsSameIrTree: two trees are the same, with what their operations use
 --   UsesMeant      UsesStand: each name that the text of an operation uses means what it was written for

@@ -5,7 +5,7 @@ ghost use Rattle.plir_roundtrip.specs.IrReadBack.{IsIrReadBack};
 ghost use Rattle.plir_roundtrip.specs.IrReadableUses.{ReadableUsesStand};
 ghost use Rattle.plir_roundtrip.specs.OpAnswer.{IsReadBack, NewModulesReadable, TextsStand};
 ghost use Rattle.plir_roundtrip.specs.SameReadBack.{IsSameReadBack};
-ghost use Rattle.plir_roundtrip.specs.TextsStanding.{IrTextsStand};
+ghost use Rattle.plir_roundtrip.specs.TextsStanding.{IrTextsArePrintable, IrTextsStand};
 
 use plir_attr_text::ReadErr;
 use plir_core::laws::contexts_stand;
@@ -51,6 +51,11 @@ pub fn ir_text_stands_for_its_operation<D: ReadSet>()
 {
     contexts_stand::<D>();
 }
+
+/// An operation whose text can be read can be printed: it has what `print_op` asks.
+pub fn ir_readable_can_be_printed<D: ReadSet>()
+    ensures { IrTextsArePrintable D.OpSet D.find_kind }
+{}
 
 /// The text of an operation is read back as it was written.
 ///

@@ -1,8 +1,10 @@
-//! The calls of scripts on operations that are read back, and a caller of the law that says so, and how such a
-//! script is played.
+//! The calls of scripts on operations that are read back, callers of the laws that say so, and how such a script
+//! is played.
 mod calls;
 pub mod copying;
+mod obstacles;
 mod readable;
 mod reading_back;
+mod text_set;
 
 pub use calls::play_in;

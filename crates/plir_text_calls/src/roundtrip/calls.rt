@@ -1,19 +1,26 @@
 //! The scripts of operations that can be read back, and of those that cannot.
-use crate::roundtrip::readable::{OwnAttrSet, read_nested, readable, set_own};
+use crate::roundtrip::obstacles::{ask_obstacle, copy, put_printed};
+use crate::roundtrip::readable::{make_own_type, read_nested, readable, set_own};
 use crate::roundtrip::reading_back::module_is_read_back;
+use crate::roundtrip::text_set::TextSet;
 use plir_data::OpSet;
-use plir_scripts::{Bench, Layer, Line, Mismatch, NodeCalls, SampleSet, Stop, play};
+use plir_read_own::ReadSet;
+use plir_scripts::{Bench, Layer, Line, Mismatch, NodeCalls, OwnSet, Stop, play};
 use std::alloc::Global;
 
 /// The calls of these tests, and those on nodes.
 struct ReadableCalls;
 
-impl<D: OwnAttrSet> Layer<D> for ReadableCalls {
+impl<D: OwnSet + ReadSet> Layer<D> for ReadableCalls {
     fn run(bench: &mut Bench<D>, line: Line<'_>) -> Result<(), Stop> {
         match line.command {
             "readable" => readable(bench, line),
             "nested" => read_nested(bench, line),
             "own" => set_own(bench, line),
+            "own-type" => make_own_type(bench),
+            "obstacle" => ask_obstacle(bench, line),
+            "copy" => copy(bench, line),
+            "printed" => put_printed(bench, line),
             "read-back" => read_back(bench),
             _ => NodeCalls::run(bench, line),
         }
@@ -33,5 +40,5 @@ fn read_back<D: OpSet>(bench: &mut Bench<D>) -> Result<(), Stop> {
 ///
 /// The first line whose answer is another one.
 pub fn play_in(alloc: Global, max_nodes: u32, script: &str) -> Result<(), Mismatch> {
-    play::<SampleSet, ReadableCalls>(alloc, max_nodes, script)
+    play::<TextSet, ReadableCalls>(alloc, max_nodes, script)
 }

@@ -9,10 +9,12 @@ ghost use Rattle.plir_print.specs.HeaderAttrs.{IsPrintable};
 ghost use Rattle.plir_print.specs.OpText.{op_text};
 ghost use Rattle.plir_roundtrip.specs.IrReadBack.{IsRoomWanting};
 ghost use Rattle.plir_roundtrip.specs.IrReadable.{HasReadableText};
+ghost use Rattle.plir_roundtrip.specs.IrReadableUses.{IsIrReadable};
 ghost use Rattle.plir_roundtrip.specs.Readable.{IsReadable};
 ghost use Rattle.plir_roundtrip.specs.SameIrTree.{IsSameIrTree};
 ghost use Rattle.plir_roundtrip.specs.SameTree.{IsSameTree};
 ghost use Rattle.plir_roundtrip.specs.UsesMeant.{UsesStand};
+ghost use Rattle.plir_text_calls.specs.Copies.{IsCopyRefusal};
 
 use plir_attr_text::Fault;
 use plir_core::{Context, Operation, Ptr};
@@ -21,9 +23,25 @@ use plir_print::print_op;
 use plir_read::read_op;
 use plir_read_ir::{IrErr, IrFault, read_ir};
 use plir_read_own::ReadSet;
-use plir_roundtrip::laws::{ir_tree_is_read_back, new_modules_can_be_read_back, op_is_read_back};
+use plir_roundtrip::laws::{
+    ir_readable_can_be_printed, ir_tree_is_read_back, ir_uses_stand, new_modules_can_be_read_back,
+    op_is_read_back,
+};
+use plir_roundtrip::{Obstacle, ir_obstacle};
 use plir_scripts::Stop;
 use std::alloc::Global;
+use thiserror::Error;
+
+/// Why an operation is not copied by its text.
+#[derive(Clone, Copy, Debug, PartialEq, Eq, Error)]
+pub enum CopyErr {
+    /// This stands against reading it back.
+    #[error("{0}")]
+    Obstacle(Obstacle),
+    /// Memory or room for a node is wanting.
+    #[error("{0}")]
+    Wanting(IrErr),
+}
 
 /// Copies an operation with all below it into another context, by its text.
 pub fn copy_by_text<D: OpSet>(
@@ -107,4 +125,45 @@ pub fn copy_ir_by_text<D: ReadSet>(
     ir_tree_is_read_back::<D>(text, &read);
     let _types = into.types();
     read
+}
+
+// Copies an operation against which nothing stands, by its text, into its own context.
+fn copy_readable<D: ReadSet>(
+    alloc: Global,
+    ctx: &mut Context<D>,
+    op: Ptr<Operation>,
+) -> Result<Ptr<Operation>, IrErr>
+    requires live { IsLive ctx.old (AnyNode.Operation op) }
+    requires readable { IsIrReadable D.OpSet D.find_kind D.is_isolated ctx.old op }
+    ensures same { IfOk result (λ q. IsSameIrTree ctx.old ctx.new (AnyNode.Operation op) (AnyNode.Operation q)) }
+    ensures wanting { IfErr result (λ e. IsRoomWanting e.fault) }
+{
+    ir_readable_can_be_printed::<D>();
+    ir_uses_stand::<D>();
+    let printed = text_of(alloc, ctx, op)?;
+    let text = printed.as_str();
+    let read = read_ir(alloc, ctx, text);
+    ir_tree_is_read_back::<D>(text, &read);
+    let _types = ctx.types();
+    read
+}
+
+/// Copies an operation of any kind with all below it, by its text, into its own context, where nothing stands against
+/// that: then only memory or room can be wanting.
+pub fn copy_beside<D: ReadSet>(
+    alloc: Global,
+    ctx: &mut Context<D>,
+    op: Ptr<Operation>,
+) -> Result<Ptr<Operation>, CopyErr>
+    requires { IsLive ctx.old (AnyNode.Operation op) }
+    ensures same { IfOk result (λ q. IsSameIrTree ctx.old ctx.new (AnyNode.Operation op) (AnyNode.Operation q)) }
+    ensures refused { IfErr result (IsCopyRefusal D.OpSet D.find_kind D.is_isolated ctx.old op) }
+{
+    if let Some(why) = ir_obstacle(ctx, op) {
+        return Err(CopyErr::Obstacle(why));
+    }
+    match copy_readable(alloc, ctx, op) {
+        Ok(copy) => Ok(copy),
+        Err(found) => Err(CopyErr::Wanting(found)),
+    }
 }

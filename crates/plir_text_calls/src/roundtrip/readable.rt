@@ -1,8 +1,8 @@
 //! The calls that ask whether an operation can be read back.
-use plir_data::{AttrObj, Identifier, OpSet};
+use plir_data::{AttrObj, Identifier, OpSet, TypeObj, TypeStore};
 use plir_read::read_op;
 use plir_roundtrip::is_readable;
-use plir_scripts::{Bench, Line, SampleAttr, SampleSet, ScriptSet, Stop, nested_text, put_fault};
+use plir_scripts::{Bench, Line, OwnSet, Stop, nested_text, put_fault, put_type_name};
 
 /// `readable OP`: writes `yes` where the operation can be read back from its text, else `no`.
 pub fn readable<D: OpSet>(bench: &mut Bench<D>, line: Line<'_>) -> Result<(), Stop> {
@@ -30,26 +30,26 @@ pub fn read_nested<D: OpSet>(bench: &mut Bench<D>, line: Line<'_>) -> Result<(),
     Ok(())
 }
 
-/// An op set with an attribute of its own. The call is generic in it: over the op set itself it takes long to prove.
-pub trait OwnAttrSet: ScriptSet {
-    /// The attribute, left out of texts.
-    fn own_attr() -> Self::Attr;
-}
-
-impl OwnAttrSet for SampleSet {
-    fn own_attr() -> SampleAttr {
-        SampleAttr(true)
-    }
-}
-
-/// `own OPERATION KEY`: puts the own attribute under the key.
-pub fn set_own<D: OwnAttrSet>(bench: &mut Bench<D>, line: Line<'_>) -> Result<(), Stop> {
+/// `own OPERATION KEY` or `own OPERATION KEY shown`: puts an own attribute under the key, one that texts leave out or
+/// one that they show.
+pub fn set_own<D: OwnSet>(bench: &mut Bench<D>, line: Line<'_>) -> Result<(), Stop> {
     let key = Identifier::try_new(bench.alloc, line.second)?;
     let op = bench.made.op(&bench.ctx, line.first)?;
-    let value = AttrObj::Own(D::own_attr());
+    let value = AttrObj::Own(D::own_attr(line.third != "shown"));
     if !value.is_live(&bench.ctx) {
         return Err(Stop::Refused);
     }
     op.set_attr(&mut bench.ctx, key, value)?;
     Ok(())
+}
+
+/// `own-type`: writes the name of a type of the set's own.
+pub fn make_own_type<D: OwnSet>(bench: &mut Bench<D>) -> Result<(), Stop> {
+    bench.made.types.reserve(1)?;
+    let value = TypeObj::Own(D::own_type(false));
+    if !value.is_live(&bench.ctx) {
+        return Err(Stop::Refused);
+    }
+    let handle = bench.ctx.instantiate(value)?;
+    put_type_name(&mut bench.made, &mut bench.answer, handle)
 }

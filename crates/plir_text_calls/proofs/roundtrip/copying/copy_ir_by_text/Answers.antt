@@ -1,17 +1,10 @@
-use Rattle.std.proofs.Common.{Result, Ok, Err, IfErr, IfOk, MatchResult, ◌∙◌}
+use Rattle.std.proofs.Common.{MatchResult, ◌∙◌}
 use Rattle.plir_core.specs.declared.ptr.IRNode.TheVariants.{Operation}
 use Rattle.plir_roundtrip.specs.IrReadBack.{IsRoomWanting}
 use Rattle.plir_roundtrip.specs.SameIrTree.{IsSameIrTree}
+use Rattle.plir_text_calls.proofs.Answered.{where_err, where_ok}
 use Rattle.plir_text_calls.proofs.roundtrip.copying.copy_ir_by_text.Given as given
 use Rattle.plir_text_calls.proofs.roundtrip.copying.copy_ir_by_text.Goals as goal
-
-where_ok : {X E : Type 0} (P : X → Type 0) (Q : E → Type 0) (r : Result X E) → MatchResult r P Q → IfOk r P
-where_ok P Q (Ok x) h = h
-where_ok P Q (Err e) h = tt
-
-where_err : {X E : Type 0} (P : X → Type 0) (Q : E → Type 0) (r : Result X E) → MatchResult r P Q → IfErr r Q
-where_err P Q (Ok x) h = tt
-where_err P Q (Err e) h = h
 
 -- the law, at what the calls before it ensure
 told : (g : given.Over) (c : goal.After-drop-printed g) → MatchResult c.read_ir-read.result
