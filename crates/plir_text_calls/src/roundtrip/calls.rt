@@ -8,21 +8,61 @@ use plir_read_own::ReadSet;
 use plir_scripts::{Bench, Layer, Line, Mismatch, NodeCalls, OwnSet, Stop, play};
 use std::alloc::Global;
 
+/// What a line asks for.
+#[derive(Clone, Copy)]
+enum Call {
+    /// `readable`: whether an operation is read back from its text.
+    Readable,
+    /// `nested`: the same of many levels.
+    ReadNested,
+    /// `own`: an attribute of the user's own.
+    SetOwn,
+    /// `own-type`: a type of the user's own.
+    MakeOwnType,
+    /// `obstacle`: what stands against reading an operation back.
+    AskObstacle,
+    /// `copy`: a copy by a text.
+    Copy,
+    /// `printed`: the text of an operation.
+    PutPrinted,
+    /// `read-back`: whether a module is read back.
+    ReadBack,
+    /// A call on nodes.
+    OnNodes,
+}
+
+impl Call {
+    // What this word asks for.
+    fn of(word: &str) -> Call {
+        match word {
+            "readable" => Call::Readable,
+            "nested" => Call::ReadNested,
+            "own" => Call::SetOwn,
+            "own-type" => Call::MakeOwnType,
+            "obstacle" => Call::AskObstacle,
+            "copy" => Call::Copy,
+            "printed" => Call::PutPrinted,
+            "read-back" => Call::ReadBack,
+            _ => Call::OnNodes,
+        }
+    }
+}
+
 /// The calls of these tests, and those on nodes.
 struct ReadableCalls;
 
 impl<D: OwnSet + ReadSet> Layer<D> for ReadableCalls {
     fn run(bench: &mut Bench<D>, line: Line<'_>) -> Result<(), Stop> {
-        match line.command {
-            "readable" => readable(bench, line),
-            "nested" => read_nested(bench, line),
-            "own" => set_own(bench, line),
-            "own-type" => make_own_type(bench),
-            "obstacle" => ask_obstacle(bench, line),
-            "copy" => copy(bench, line),
-            "printed" => put_printed(bench, line),
-            "read-back" => read_back(bench),
-            _ => NodeCalls::run(bench, line),
+        match Call::of(line.command) {
+            Call::Readable => readable(bench, line),
+            Call::ReadNested => read_nested(bench, line),
+            Call::SetOwn => set_own(bench, line),
+            Call::MakeOwnType => make_own_type(bench),
+            Call::AskObstacle => ask_obstacle(bench, line),
+            Call::Copy => copy(bench, line),
+            Call::PutPrinted => put_printed(bench, line),
+            Call::ReadBack => read_back(bench),
+            Call::OnNodes => NodeCalls::run(bench, line),
         }
     }
 }
