@@ -9,6 +9,7 @@ use crate::bench::Bench;
 use crate::in_context::{InContext, in_new_context};
 use crate::line::{Line, number};
 use crate::made::Made;
+use crate::question::{OfContents, OfNode, OfTypes, OfUses, Question};
 use crate::showing::{put_attr, put_type, show};
 use crate::stop::Stop;
 use plir_core::{
@@ -18,55 +19,42 @@ use plir_core::{
 use plir_data::{GivenNamesAttr, OpSet};
 use std::alloc::Global;
 
-/// Writes what a line asks for: `fresh`, `show NODE`, `get NODE KEY`, `live NODE`, `count`, `number NODE`, `above NODE
-/// NODE`, `unused NODE`, `used VALUE`, `uses VALUE`, `users VALUE`, `branches BLOCK`, `interfaces OP`,
-/// `point SIDE NODE`, `use OP PLACE`, `text TYPE`, `typed VALUE` or `types NODE`.
-pub fn ask<D: OpSet>(bench: &mut Bench<D>, line: Line<'_>) -> Result<(), Stop> {
-    match line.command {
-        "text" | "typed" | "types" => ask_types(bench, line),
-        "get" | "interfaces" | "point" | "use" => ask_contents(bench, line),
-        "unused" | "used" | "uses" => ask_uses(bench, line),
-        "users" | "branches" => ask_users(bench, line),
-        "show" => show_node(bench, line),
-        "fresh" => {
+/// Writes what a line asks for.
+pub fn ask<D: OpSet>(bench: &mut Bench<D>, question: Question, line: Line<'_>) -> Result<(), Stop> {
+    match question {
+        Question::Node(asked) => ask_node(bench, asked, line),
+        Question::Uses(asked) => ask_uses(bench, asked, line),
+        Question::Contents(asked) => ask_contents(bench, asked, line),
+        Question::Types(asked) => ask_types(bench, asked, line),
+        Question::Show => show_node(bench, line),
+        Question::Fresh => {
             fresh::<D>(bench.alloc, &mut bench.answer);
             Ok(())
         }
-        _ => ask_node(bench, line),
     }
 }
 
-// Whether a node is there, its number, what stands above it, and how many there are.
-fn ask_node<D: OpSet>(bench: &mut Bench<D>, line: Line<'_>) -> Result<(), Stop> {
+fn ask_node<D: OpSet>(bench: &mut Bench<D>, asked: OfNode, line: Line<'_>) -> Result<(), Stop> {
     let (ctx, made, answer) = (&bench.ctx, &bench.made, &mut bench.answer);
-    match line.command {
-        "live" => answer.put_truth(made.node(line.first)?.is_live(ctx)),
-        "number" => put_pointer(answer, made.node(line.first)?),
-        "above" => above(ctx, made, answer, line)?,
-        "count" => answer.put_number(ctx.num_live() as usize),
-        _ => return Err(Stop::Refused),
+    match asked {
+        OfNode::Live => answer.put_truth(made.node(line.first)?.is_live(ctx)),
+        OfNode::Number => put_pointer(answer, made.node(line.first)?),
+        OfNode::Above => above(ctx, made, answer, line)?,
+        OfNode::Count => answer.put_number(ctx.num_live() as usize),
     }
     Ok(())
 }
 
-// Whether something uses a node or a value.
-fn ask_uses<D: OpSet>(bench: &mut Bench<D>, line: Line<'_>) -> Result<(), Stop> {
-    let (ctx, made, answer) = (&bench.ctx, &bench.made, &mut bench.answer);
-    match line.command {
-        "unused" => answer.put_truth(made.live(ctx, line.first)?.is_unused_outside(ctx)),
-        "used" => answer.put_truth(made.value(ctx, line.first)?.has_uses(ctx)),
-        _ => answer.put_number(made.value(ctx, line.first)?.num_uses(ctx)),
+fn ask_uses<D: OpSet>(bench: &mut Bench<D>, asked: OfUses, line: Line<'_>) -> Result<(), Stop> {
+    let (alloc, ctx, made, answer) = (bench.alloc, &bench.ctx, &bench.made, &mut bench.answer);
+    match asked {
+        OfUses::Unused => answer.put_truth(made.live(ctx, line.first)?.is_unused_outside(ctx)),
+        OfUses::Used => answer.put_truth(made.value(ctx, line.first)?.has_uses(ctx)),
+        OfUses::Count => answer.put_number(made.value(ctx, line.first)?.num_uses(ctx)),
+        OfUses::Users => users(alloc, ctx, made, answer, made.value(ctx, line.first)?)?,
+        OfUses::Branches => branches(alloc, ctx, made, answer, made.block(ctx, line.first)?)?,
     }
     Ok(())
-}
-
-// Which operations use a value or branch to a block, and at which of their places.
-fn ask_users<D: OpSet>(bench: &mut Bench<D>, line: Line<'_>) -> Result<(), Stop> {
-    let (ctx, made, answer) = (&bench.ctx, &bench.made, &mut bench.answer);
-    match line.command {
-        "users" => users(bench.alloc, ctx, made, answer, made.value(ctx, line.first)?),
-        _ => branches(bench.alloc, ctx, made, answer, made.block(ctx, line.first)?),
-    }
 }
 
 fn show_node<D: OpSet>(bench: &mut Bench<D>, line: Line<'_>) -> Result<(), Stop> {
@@ -81,27 +69,29 @@ fn show_node<D: OpSet>(bench: &mut Bench<D>, line: Line<'_>) -> Result<(), Stop>
     Ok(())
 }
 
-// What a node holds, and where one would be inserted.
-fn ask_contents<D: OpSet>(bench: &mut Bench<D>, line: Line<'_>) -> Result<(), Stop> {
+fn ask_contents<D: OpSet>(
+    bench: &mut Bench<D>,
+    asked: OfContents,
+    line: Line<'_>,
+) -> Result<(), Stop> {
     let (ctx, made, answer) = (&bench.ctx, &bench.made, &mut bench.answer);
-    match line.command {
-        "get" => get(bench.alloc, ctx, made, answer, line),
-        "interfaces" => interfaces(ctx, answer, made.op(ctx, line.first)?),
-        "use" => show_use(ctx, made, answer, line),
-        _ => {
+    match asked {
+        OfContents::Get => get(bench.alloc, ctx, made, answer, line),
+        OfContents::Interfaces => interfaces(ctx, answer, made.op(ctx, line.first)?),
+        OfContents::Use => show_use(ctx, made, answer, line),
+        OfContents::Point => {
             made.put_block(answer, point(ctx, made, line)?.get_insertion_block(ctx));
             Ok(())
         }
     }
 }
 
-// The texts of types: of one that is named, of that of a value, or of those of all values of a node.
-fn ask_types<D: OpSet>(bench: &mut Bench<D>, line: Line<'_>) -> Result<(), Stop> {
+fn ask_types<D: OpSet>(bench: &mut Bench<D>, asked: OfTypes, line: Line<'_>) -> Result<(), Stop> {
     let (ctx, made, answer) = (&bench.ctx, &bench.made, &mut bench.answer);
-    let handle = match line.command {
-        "text" => made.type_named(ctx, line.first)?,
-        "typed" => made.value(ctx, line.first)?.get_type(ctx),
-        _ => return types(bench.alloc, ctx, made, answer, line),
+    let handle = match asked {
+        OfTypes::Text => made.type_named(ctx, line.first)?,
+        OfTypes::Typed => made.value(ctx, line.first)?.get_type(ctx),
+        OfTypes::OfValues => return types(bench.alloc, ctx, made, answer, line),
     };
     put_type(bench.alloc, ctx, answer, handle);
     Ok(())
@@ -196,17 +186,40 @@ fn interfaces<D: OpSet>(
     Ok(())
 }
 
+// Where a point is.
+#[derive(Clone, Copy)]
+enum PointSide {
+    Unset,
+    Start,
+    End,
+    Before,
+    After,
+}
+
+impl PointSide {
+    fn of(word: &str) -> Result<Self, Stop> {
+        match word {
+            "unset" => Ok(PointSide::Unset),
+            "start" => Ok(PointSide::Start),
+            "end" => Ok(PointSide::End),
+            "before" => Ok(PointSide::Before),
+            "after" => Ok(PointSide::After),
+            _ => Err(Stop::Refused),
+        }
+    }
+}
+
 // The insertion point that a line names.
 fn point<D: OpSet>(ctx: &Context<D>, made: &Made, line: Line<'_>) -> Result<OpInsertionPoint, Stop>
     ensures { IfOk result (λ point. IsPointLive ctx.now point) }
 {
-    match line.first {
-        "unset" => Ok(OpInsertionPoint::Unset),
-        "start" => Ok(OpInsertionPoint::AtBlockStart(made.block(ctx, line.second)?)),
-        "end" => Ok(OpInsertionPoint::AtBlockEnd(made.block(ctx, line.second)?)),
-        "before" => Ok(OpInsertionPoint::BeforeOperation(made.op(ctx, line.second)?)),
-        "after" => Ok(OpInsertionPoint::AfterOperation(made.op(ctx, line.second)?)),
-        _ => Err(Stop::Refused),
+    let name = line.second;
+    match PointSide::of(line.first)? {
+        PointSide::Unset => Ok(OpInsertionPoint::Unset),
+        PointSide::Start => Ok(OpInsertionPoint::AtBlockStart(made.block(ctx, name)?)),
+        PointSide::End => Ok(OpInsertionPoint::AtBlockEnd(made.block(ctx, name)?)),
+        PointSide::Before => Ok(OpInsertionPoint::BeforeOperation(made.op(ctx, name)?)),
+        PointSide::After => Ok(OpInsertionPoint::AfterOperation(made.op(ctx, name)?)),
     }
 }
 

@@ -6,6 +6,7 @@ use crate::line::{Line, read_line};
 use crate::linking::link;
 use crate::made::Made;
 use crate::making::make;
+use crate::node_call::NodeCall;
 use crate::refusing::{grant_memory, refuse_memory};
 use crate::script_set::ScriptSet;
 use crate::showing::show;
@@ -43,30 +44,13 @@ pub struct NodeCalls;
 
 impl<D: ScriptSet> Layer<D> for NodeCalls {
     fn run(bench: &mut Bench<D>, line: Line<'_>) -> Result<(), Stop> {
-        match line.command {
-            "op" | "block" | "split" | "region" | "type" => make(bench, line),
-            "front"
-            | "back"
-            | "before"
-            | "after"
-            | "move-before"
-            | "move-after"
-            | "splice"
-            | "unlink"
-            | "erase" => { link(&mut bench.ctx, &bench.made, line) }
-            "insert"
-            | "remove"
-            | "replace"
-            | "replace-all"
-            | "redirect"
-            | "set"
-            | "swap"
-            | "take"
-            | "label"
-            | "at" => { change(bench, line) }
-            "refuse" => refuse_memory(bench.alloc),
-            "grant" => grant_memory(bench.alloc),
-            _ => ask(bench, line),
+        match NodeCall::of(line.command)? {
+            NodeCall::Make(making) => make(bench, making, line),
+            NodeCall::Link(linking) => link(&mut bench.ctx, &bench.made, linking, line),
+            NodeCall::Change(changing) => change(bench, changing, line),
+            NodeCall::Ask(question) => ask(bench, question, line),
+            NodeCall::RefuseMemory => refuse_memory(bench.alloc),
+            NodeCall::GrantMemory => grant_memory(bench.alloc),
         }
     }
 }

@@ -13,21 +13,67 @@ use plir_core::{Context, IRNode};
 use plir_data::{AttrObj, Identifier, Location, OpSet};
 use std::alloc::Global;
 
-/// Does what a line says that changes contents: `insert OP PLACE VALUE`, `remove OP PLACE`, `replace OP PLACE VALUE`,
-/// `replace-all VALUE VALUE`, `redirect OP PLACE BLOCK`, `set NODE KEY ATTRIBUTE`, `swap NODE KEY ATTRIBUTE`,
-/// `take NODE KEY`, `label BLOCK NAME`, `label BLOCK` or `at OP LINE COLUMN`.
-pub fn change<D: OpSet>(bench: &mut Bench<D>, line: Line<'_>) -> Result<(), Stop> {
-    match line.command {
-        "insert" => insert_operand(bench, line),
-        "remove" => remove_operand(bench, line),
-        "replace" => replace_operand(bench, line),
-        "replace-all" => replace_all(bench, line),
-        "redirect" => set_successor(bench, line),
-        "set" => set(bench, line),
-        "swap" => swap(bench, line),
-        "take" => take(bench, line),
-        "label" => label(bench, line),
-        _ => set_location(bench, line),
+/// How a line changes contents.
+#[derive(Clone, Copy)]
+pub enum Changing {
+    /// `insert OP PLACE VALUE`.
+    Insert,
+    /// `remove OP PLACE`.
+    Remove,
+    /// `replace OP PLACE VALUE`.
+    Replace,
+    /// `replace-all VALUE VALUE`.
+    ReplaceAll,
+    /// `redirect OP PLACE BLOCK`.
+    Redirect,
+    /// `set NODE KEY ATTRIBUTE`.
+    Set,
+    /// `swap NODE KEY ATTRIBUTE`.
+    Swap,
+    /// `take NODE KEY`.
+    Take,
+    /// `label BLOCK NAME` or `label BLOCK`.
+    Label,
+    /// `at OP LINE COLUMN`.
+    At,
+}
+
+impl Changing {
+    /// How a word changes contents.
+    pub fn of(word: &str) -> Option<Self> {
+        match word {
+            "insert" => Some(Changing::Insert),
+            "remove" => Some(Changing::Remove),
+            "replace" => Some(Changing::Replace),
+            "replace-all" => Some(Changing::ReplaceAll),
+            "redirect" => Some(Changing::Redirect),
+            "set" => Some(Changing::Set),
+            "swap" => Some(Changing::Swap),
+            "take" => Some(Changing::Take),
+            "label" => Some(Changing::Label),
+            "at" => Some(Changing::At),
+            _ => None,
+        }
+    }
+}
+
+/// Changes contents as a line says.
+pub fn change<D: OpSet>(
+    bench: &mut Bench<D>,
+    changing: Changing,
+    line: Line<'_>,
+) -> Result<(), Stop> {
+    match changing {
+        Changing::Insert => insert_operand(bench, line),
+        Changing::Remove => remove_operand(bench, line),
+        Changing::Replace => replace_operand(bench, line),
+        Changing::ReplaceAll => replace_all(bench, line),
+        Changing::Redirect => set_successor(bench, line),
+        Changing::Set => set(bench, line),
+        Changing::Swap => swap(bench, line),
+        Changing::Take => take(bench, line),
+        Changing::Label => label(bench, line),
+        Changing::At => set_location(bench, line),
     }
 }
 

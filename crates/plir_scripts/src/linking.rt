@@ -10,27 +10,59 @@ use plir_data::OpSet;
 
 /// Where a node is put.
 #[derive(Clone, Copy, PartialEq, Eq, Debug)]
-enum Side {
+pub enum Side {
     Front,
     Back,
     Before,
     After,
 }
 
-/// Does what a line says that changes links: `front NODE IN`, `back NODE IN`, `before NODE MARK`, `after NODE MARK`,
-/// `move-before OP MARK`, `move-after OP MARK`, `splice BLOCK IN`, `splice BLOCK MARK`, `unlink NODE` or `erase NODE`.
-pub fn link<D: OpSet>(ctx: &mut Context<D>, made: &Made, line: Line<'_>) -> Result<(), Stop> {
-    match line.command {
-        "front" => put(ctx, made, line, Side::Front),
-        "back" => put(ctx, made, line, Side::Back),
-        "before" => put(ctx, made, line, Side::Before),
-        "after" => put(ctx, made, line, Side::After),
-        "move-before" => move_op(ctx, made, line, Side::Before),
-        "move-after" => move_op(ctx, made, line, Side::After),
-        "splice" => splice(ctx, made, line),
-        "unlink" => unlink(ctx, made, line),
-        "erase" => erase(ctx, made, line),
-        _ => Err(Stop::Refused),
+/// How a line changes links.
+#[derive(Clone, Copy)]
+pub enum Linking {
+    /// `front NODE IN`, `back NODE IN`, `before NODE MARK` or `after NODE MARK`.
+    Put(Side),
+    /// `move-before OP MARK` or `move-after OP MARK`.
+    Move(Side),
+    /// `splice BLOCK IN` or `splice BLOCK MARK`.
+    Splice,
+    /// `unlink NODE`.
+    Unlink,
+    /// `erase NODE`.
+    Erase,
+}
+
+impl Linking {
+    /// How a word changes links.
+    pub fn of(word: &str) -> Option<Self> {
+        match word {
+            "front" => Some(Linking::Put(Side::Front)),
+            "back" => Some(Linking::Put(Side::Back)),
+            "before" => Some(Linking::Put(Side::Before)),
+            "after" => Some(Linking::Put(Side::After)),
+            "move-before" => Some(Linking::Move(Side::Before)),
+            "move-after" => Some(Linking::Move(Side::After)),
+            "splice" => Some(Linking::Splice),
+            "unlink" => Some(Linking::Unlink),
+            "erase" => Some(Linking::Erase),
+            _ => None,
+        }
+    }
+}
+
+/// Changes links as a line says.
+pub fn link<D: OpSet>(
+    ctx: &mut Context<D>,
+    made: &Made,
+    linking: Linking,
+    line: Line<'_>,
+) -> Result<(), Stop> {
+    match linking {
+        Linking::Put(side) => put(ctx, made, line, side),
+        Linking::Move(side) => move_op(ctx, made, line, side),
+        Linking::Splice => splice(ctx, made, line),
+        Linking::Unlink => unlink(ctx, made, line),
+        Linking::Erase => erase(ctx, made, line),
     }
 }
 

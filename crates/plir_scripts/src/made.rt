@@ -11,6 +11,27 @@ use plir_core::{BasicBlock, Context, DefiningEntity, IRNode, Operation, Ptr, Reg
 use plir_data::{OpSet, TypeHandle};
 use std::alloc::Global;
 
+// Which node a name means: of which kind, and the place among those of its kind.
+#[derive(Clone, Copy)]
+enum NodeName {
+    Op(usize),
+    Region(usize),
+    Block(usize),
+}
+
+impl NodeName {
+    fn of(name: &str) -> Option<Self> {
+        if let Some(place) = name.strip_prefix('o') {
+            return Some(NodeName::Op(place.parse::<usize>().ok()?));
+        }
+        if let Some(place) = name.strip_prefix('r') {
+            return Some(NodeName::Region(place.parse::<usize>().ok()?));
+        }
+        let place = name.strip_prefix('b')?;
+        Some(NodeName::Block(place.parse::<usize>().ok()?))
+    }
+}
+
 /// The nodes that a script has made and the types that it has named, in this order.
 #[derive(Drop)]
 pub struct Made {
@@ -40,17 +61,11 @@ impl Made {
     }
 
     fn find(&self, name: &str) -> Option<IRNode> {
-        if let Some(place) = name.strip_prefix('o') {
-            let op = self.ops.get(place.parse::<usize>().ok()?)?;
-            return Some(IRNode::Operation(*op));
+        match NodeName::of(name)? {
+            NodeName::Op(place) => self.ops.get(place).copied().map(IRNode::Operation),
+            NodeName::Region(place) => self.regions.get(place).copied().map(IRNode::Region),
+            NodeName::Block(place) => self.blocks.get(place).copied().map(IRNode::BasicBlock),
         }
-        if let Some(place) = name.strip_prefix('r') {
-            let region = self.regions.get(place.parse::<usize>().ok()?)?;
-            return Some(IRNode::Region(*region));
-        }
-        let place = name.strip_prefix('b')?;
-        let block = self.blocks.get(place.parse::<usize>().ok()?)?;
-        Some(IRNode::BasicBlock(*block))
     }
 
     /// The node of a name, which has to be live.

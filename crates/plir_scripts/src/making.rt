@@ -14,15 +14,47 @@ use plir_core::{BasicBlock, Context, Operation, Ptr};
 use plir_data::{Identifier, OpKind, OpSet, TypeHandle};
 use std::alloc::{AllocError, Global};
 
-/// Makes what a line says, and writes its name: `op KIND REGIONS RESULT_TYPES < OPERANDS > SUCCESSORS`, where `<` and
-/// `>` may be left out, `block LABEL ARGUMENT_TYPES`, where `-` is no label, `split OP`, `region OP` or `type TEXT`.
-pub fn make<D: ScriptSet>(bench: &mut Bench<D>, line: Line<'_>) -> Result<(), Stop> {
-    match line.command {
-        "op" => make_op(bench, line),
-        "block" => make_block(bench, line),
-        "split" => split_block(bench, line),
-        "region" => make_region(bench, line),
-        _ => make_type(bench, line),
+/// What a line makes.
+#[derive(Clone, Copy)]
+pub enum Making {
+    /// `op KIND REGIONS RESULT_TYPES < OPERANDS > SUCCESSORS`, where `<` and `>` may be left out.
+    Op,
+    /// `block LABEL ARGUMENT_TYPES`, where `-` is no label.
+    Block,
+    /// `split OP`: the block behind an operation.
+    Split,
+    /// `region OP`.
+    Region,
+    /// `type TEXT`.
+    Type,
+}
+
+impl Making {
+    /// What a word makes.
+    pub fn of(word: &str) -> Option<Self> {
+        match word {
+            "op" => Some(Making::Op),
+            "block" => Some(Making::Block),
+            "split" => Some(Making::Split),
+            "region" => Some(Making::Region),
+            "type" => Some(Making::Type),
+            _ => None,
+        }
+    }
+}
+
+/// Makes what a line says, and writes its name.
+pub fn make<D: ScriptSet>(
+    bench: &mut Bench<D>,
+    making: Making,
+    line: Line<'_>,
+) -> Result<(), Stop> {
+    match making {
+        Making::Op => make_op(bench, line),
+        Making::Block => make_block(bench, line),
+        Making::Split => split_block(bench, line),
+        Making::Region => make_region(bench, line),
+        Making::Type => make_type(bench, line),
     }
 }
 

@@ -10,22 +10,59 @@ use plir_data::{
     APInt, AttrObj, DictAttr, Identifier, IntegerAttr, IntegerType, OpSet, TypedHandle, VecAttr,
 };
 
-/// The attribute that is written so.
-pub fn value_of<D: OwnSet>(bench: &mut Bench<D>, written: &str) -> Result<AttrObj<D>, Stop> {
-    let (word, rest) = split_word(written);
-    match word {
-        "list" => list_of(bench, rest),
-        "under" => pairs_of(bench, rest),
-        _ => single(bench, written),
+// How an attribute is written.
+#[derive(Clone, Copy)]
+enum Form<'a> {
+    // The attributes in a list.
+    List(&'a str),
+    // The pairs of a dictionary.
+    Pairs(&'a str),
+    // Neither.
+    Single(Single<'a>),
+}
+
+// How an attribute is written that is neither a list nor a dictionary, or has a text.
+#[derive(Clone, Copy)]
+enum Single<'a> {
+    // That of the op set, marked or not.
+    Own(bool),
+    // An integer in the type of a name.
+    Misfit(&'a str),
+    // The text.
+    Text(&'a str),
+}
+
+// The form of what is written.
+fn form_of(written: &str) -> Form<'_> {
+    match split_word(written) {
+        ("list", items) => Form::List(items),
+        ("under", pairs) => Form::Pairs(pairs),
+        _ => Form::Single(single_of(written)),
     }
 }
 
-// The attribute that is neither a list nor a dictionary, or a text.
-fn single<D: OwnSet>(bench: &mut Bench<D>, written: &str) -> Result<AttrObj<D>, Stop> {
+fn single_of(written: &str) -> Single<'_> {
     match split_word(written) {
-        ("own", mark) => Ok(AttrObj::Own(D::own_attr(mark == "marked"))),
-        ("misfit", name) => misfit(bench, name),
-        _ => Ok(read_attr(bench.alloc, &mut bench.ctx, written)?),
+        ("own", mark) => Single::Own(mark == "marked"),
+        ("misfit", name) => Single::Misfit(name),
+        _ => Single::Text(written),
+    }
+}
+
+/// The attribute that is written so.
+pub fn value_of<D: OwnSet>(bench: &mut Bench<D>, written: &str) -> Result<AttrObj<D>, Stop> {
+    match form_of(written) {
+        Form::List(items) => list_of(bench, items),
+        Form::Pairs(pairs) => pairs_of(bench, pairs),
+        Form::Single(single) => attr_of(bench, single),
+    }
+}
+
+fn attr_of<D: OwnSet>(bench: &mut Bench<D>, single: Single<'_>) -> Result<AttrObj<D>, Stop> {
+    match single {
+        Single::Own(is_marked) => Ok(AttrObj::Own(D::own_attr(is_marked))),
+        Single::Misfit(name) => misfit(bench, name),
+        Single::Text(text) => Ok(read_attr(bench.alloc, &mut bench.ctx, text)?),
     }
 }
 
@@ -50,7 +87,7 @@ fn put_item<D: OwnSet>(
     items: &mut Vec<AttrObj<D>>,
     written: &str,
 ) -> Result<(), Stop> {
-    let item = single(bench, written)?;
+    let item = attr_of(bench, single_of(written))?;
     Ok(items.push(item)?)
 }
 
@@ -68,7 +105,7 @@ fn put_pair<D: OwnSet>(
     written: &str,
 ) -> Result<(), Stop> {
     let (key, value) = split_word(written);
-    let value = single(bench, value)?;
+    let value = attr_of(bench, single_of(value))?;
     let key = Identifier::try_new(bench.alloc, key)?;
     Ok(pairs.push((key, value))?)
 }

@@ -2,6 +2,7 @@
 ghost use Rattle.plir_core.specs.ContextView.{IsLive};
 ghost use Rattle.plir_core.specs.declared.ptr.IRNode.{IRNode as AnyNode};
 
+use crate::flow::flow_call::{BranchCall, CountedCall};
 use crate::flow::grouping::{put_values, put_verdict};
 use plir_core::{Context, LessThanN};
 use plir_data::OpSet;
@@ -9,42 +10,46 @@ use plir_flow::{BranchOpInterface, NSuccsInterface, OneSuccInterface};
 use plir_scripts::{Answer, Bench, Line, Made, Stop, number};
 use std::alloc::Global;
 
-/// The calls on a branch: `forwarded`, `add`, `drop` and `reset`; any other one verifies.
+/// The calls on a branch.
 pub fn call_branch<D: OpSet, B: BranchOpInterface<D>>(
     bench: &mut Bench<D>,
     op: &B,
+    call: BranchCall,
     line: Line<'_>,
 ) -> Result<(), Stop>
     requires { IsLive bench.old.ctx (AnyNode.Operation (B.pointer op.now)) }
 {
     let (alloc, ctx, made, answer) = (bench.alloc, &mut bench.ctx, &bench.made, &mut bench.answer);
-    match line.command {
-        "add" => add(alloc, ctx, made, answer, op, line),
-        "drop" => take_out(alloc, ctx, made, answer, op, line),
-        "reset" => reset(alloc, ctx, made, op, line),
-        "forwarded" => ask_forwarded(alloc, ctx, made, answer, op, number(line.second)?),
-        _ => {
+    match call {
+        BranchCall::Add => add(alloc, ctx, made, answer, op, line),
+        BranchCall::Drop => take_out(alloc, ctx, made, answer, op, line),
+        BranchCall::Reset => reset(alloc, ctx, made, op, line),
+        BranchCall::Forwarded => {
+            ask_forwarded(alloc, ctx, made, answer, op, number(line.second)?)
+        }
+        BranchCall::Verify => {
             put_verdict(answer, BranchOpInterface::<D>::verify(op, alloc, ctx));
             Ok(())
         }
     }
 }
 
-/// `branch OP RULE` verifies by a rule of numbers of successors, `successor OP` writes the last of two successors, or
-/// the one; the other calls are those on any branch.
+/// Verifies by a rule of numbers of successors, writes the last of two successors, or the one, or does what can be done
+/// with any branch.
 pub fn call_counted<D: OpSet, B: NSuccsInterface<D, 2> + OneSuccInterface<D>>(
     bench: &mut Bench<D>,
     op: &B,
+    call: CountedCall,
     line: Line<'_>,
 ) -> Result<(), Stop>
     requires { IsLive bench.old.ctx (AnyNode.Operation (B.pointer op.now)) }
 {
     let (ctx, answer) = (&bench.ctx, &mut bench.answer);
-    match (line.command, line.second) {
-        ("successor", _) => return ask_successor(ctx, &bench.made, answer, op),
-        ("branch", "NSuccs<2>") => put_verdict(answer, NSuccsInterface::<D, 2>::verify(op, ctx)),
-        ("branch", "OneSucc") => put_verdict(answer, OneSuccInterface::<D>::verify(op, ctx)),
-        _ => return call_branch(bench, op, line),
+    match call {
+        CountedCall::VerifyTwo => put_verdict(answer, NSuccsInterface::<D, 2>::verify(op, ctx)),
+        CountedCall::VerifyOne => put_verdict(answer, OneSuccInterface::<D>::verify(op, ctx)),
+        CountedCall::Successor => return ask_successor(ctx, &bench.made, answer, op),
+        CountedCall::Any(call) => return call_branch(bench, op, call, line),
     }
     Ok(())
 }

@@ -2,12 +2,13 @@
 ghost use Rattle.plir_core.specs.ContextView.{IsLive};
 ghost use Rattle.plir_core.specs.declared.ptr.IRNode.{IRNode as AnyNode};
 
+use crate::flow::edge_question::{EndQuestion, RegionQuestion, StandingQuestion};
 use crate::flow::edge_reading::{point_of, region_of, successor_of};
 use crate::flow::grouping::{put_values, put_verdict};
 use plir_core::{Context, Ptr, Region, Use, Value};
 use plir_data::OpSet;
 use plir_flow::{RegionBranchOpInterface, RegionBranchPoint, RegionEdge, RegionSuccessor};
-use plir_scripts::{Answer, Line, Made, Stop, split_word};
+use plir_scripts::{Answer, Made, Stop};
 use std::alloc::Global;
 
 // Writes the name of an operand's operation, and the operand's place.
@@ -65,32 +66,33 @@ pub fn put_same(alloc: Global, answer: &mut Answer, edges: &[RegionEdge]) -> Res
     Ok(())
 }
 
-/// The questions about region edges: `verify`, and those about a region, what flows, or one end of edges.
+/// The questions about edges that stand as they should.
 pub fn ask_edges<D: OpSet, O: RegionBranchOpInterface<D>>(
     alloc: Global,
     ctx: &Context<D>,
     made: &Made,
     answer: &mut Answer,
     op: &O,
-    line: Line<'_>,
+    question: StandingQuestion,
+    name: &str,
 ) -> Result<(), Stop>
     requires { IsLive ctx.now (AnyNode.Operation (O.pointer op.now)) }
 {
-    let question = line.second;
-    if question == "verify" {
-        put_verdict(answer, op.verify(alloc, ctx));
-        return Ok(());
-    }
     if op.verify_region_edges_layout(alloc, ctx).is_err() {
         return Err(Stop::Refused);
     }
-    let (name, _) = split_word(line.tail);
     match question {
-        "reachable" | "reached" | "repetitive" | "successors" | "reads" => {
-            ask_region(alloc, ctx, made, answer, op, question, name)
+        StandingQuestion::Region(asked) => ask_region(alloc, ctx, made, answer, op, asked, name),
+        StandingQuestion::Flows => {
+            put_flows(made, answer, &op.region_flows(alloc, ctx)?);
+            Ok(())
         }
-        "flows" | "incoming" => ask_flows(alloc, ctx, made, answer, op, question, name),
-        _ => ask_end(alloc, ctx, made, answer, op, question, name),
+        StandingQuestion::Incoming => {
+            let receiver = made.value(ctx, name)?;
+            put_uses(made, answer, &op.incoming_operands(alloc, ctx, receiver)?);
+            Ok(())
+        }
+        StandingQuestion::End(asked) => ask_end(alloc, ctx, made, answer, op, asked, name),
     }
 }
 
@@ -101,7 +103,7 @@ fn ask_region<D: OpSet, O: RegionBranchOpInterface<D>>(
     made: &Made,
     answer: &mut Answer,
     op: &O,
-    question: &str,
+    question: RegionQuestion,
     name: &str,
 ) -> Result<(), Stop>
     requires live { IsLive ctx.now (AnyNode.Operation (O.pointer op.now)) }
@@ -109,11 +111,23 @@ fn ask_region<D: OpSet, O: RegionBranchOpInterface<D>>(
 {
     let region = region_of(made, name)?;
     match question {
-        "reached" => answer.put_number(op.reachable_regions(alloc, ctx, region)?.len()),
-        "reachable" => put_regions(made, answer, &op.reachable_regions(alloc, ctx, region)?),
-        "repetitive" => answer.put_truth(op.is_repetitive_region(alloc, ctx, region)?),
-        "successors" => put_regions(made, answer, &op.successor_regions(alloc, ctx, region)?),
-        _ => put_uses(
+        RegionQuestion::Reached => answer.put_number(
+            op.reachable_regions(alloc, ctx, region)?.len(),
+        ),
+        RegionQuestion::Reachable => put_regions(
+            made,
+            answer,
+            &op.reachable_regions(alloc, ctx, region)?,
+        ),
+        RegionQuestion::Repetitive => answer.put_truth(op.is_repetitive_region(
+            alloc, ctx, region,
+        )?),
+        RegionQuestion::Successors => put_regions(
+            made,
+            answer,
+            &op.successor_regions(alloc, ctx, region)?,
+        ),
+        RegionQuestion::Reads => put_uses(
             made,
             answer,
             &op.operands_read_from_region(alloc, ctx, region)?,
@@ -129,58 +143,36 @@ fn ask_end<D: OpSet, O: RegionBranchOpInterface<D>>(
     made: &Made,
     answer: &mut Answer,
     op: &O,
-    question: &str,
+    question: EndQuestion,
     name: &str,
 ) -> Result<(), Stop>
     requires live { IsLive ctx.now (AnyNode.Operation (O.pointer op.now)) }
     requires layout { O.has_edges_layout op.now ctx.now }
 {
     match question {
-        "from" => put_edges(
+        EndQuestion::From => put_edges(
             made,
             answer,
             &op.edges_from(alloc, ctx, point_of(made, name)?)?,
         ),
-        "to" => put_edges(
+        EndQuestion::To => put_edges(
             made,
             answer,
             &op.edges_to(alloc, ctx, successor_of(made, name)?)?,
         ),
-        "read-from" => {
+        EndQuestion::ReadFrom => {
             let reads = op.operands_read_from(alloc, ctx, point_of(made, name)?)?;
             put_uses(made, answer, &reads);
         }
-        "read-to" => {
+        EndQuestion::ReadTo => {
             let reads = op.operands_read_to(alloc, ctx, successor_of(made, name)?)?;
             put_uses(made, answer, &reads);
         }
-        _ => {
+        EndQuestion::Receivers => {
             let receivers = op.successor_receivers(alloc, ctx, successor_of(made, name)?)?;
             put_values(made, answer, &receivers);
         }
     }
-    Ok(())
-}
-
-// The questions about what flows: all of it, or into one value.
-fn ask_flows<D: OpSet, O: RegionBranchOpInterface<D>>(
-    alloc: Global,
-    ctx: &Context<D>,
-    made: &Made,
-    answer: &mut Answer,
-    op: &O,
-    question: &str,
-    name: &str,
-) -> Result<(), Stop>
-    requires live { IsLive ctx.now (AnyNode.Operation (O.pointer op.now)) }
-    requires layout { O.has_edges_layout op.now ctx.now }
-{
-    if question == "flows" {
-        put_flows(made, answer, &op.region_flows(alloc, ctx)?);
-        return Ok(());
-    }
-    let receiver = made.value(ctx, name)?;
-    put_uses(made, answer, &op.incoming_operands(alloc, ctx, receiver)?);
     Ok(())
 }
 

@@ -47,53 +47,85 @@ pub fn verify<D: OpSet, O: OperandSegmentInterface<D>>(
     Ok(())
 }
 
-/// `types OP RULE`: the rules of the types in one segment.
+/// The rules of the types in one segment.
+#[derive(Clone, Copy)]
+pub enum TypeRule {
+    /// `SegmentNOfType<1, Unit>`.
+    SecondOfUnit,
+    /// `SegmentNOfType<2, Unit>`.
+    ThirdOfUnit,
+    /// `SegmentNImplsTy<1, Function>`.
+    SecondOfFunction,
+}
+
+impl TypeRule {
+    /// The rule of a name.
+    pub fn of(name: &str) -> Result<Self, Stop> {
+        match name {
+            "SegmentNOfType<1, Unit>" => Ok(TypeRule::SecondOfUnit),
+            "SegmentNOfType<2, Unit>" => Ok(TypeRule::ThirdOfUnit),
+            "SegmentNImplsTy<1, Function>" => Ok(TypeRule::SecondOfFunction),
+            _ => Err(Stop::Refused),
+        }
+    }
+}
+
+/// `segment-types OP RULE` verifies by a rule.
 pub fn verify_types<
     D: OpSet,
     O: SegmentNOfType<D, 1, UnitType>
         + SegmentNOfType<D, 2, UnitType>
         + SegmentNImplsTy<D, 1, FunctionTypeMark>,
->(alloc: Global, ctx: &Context<D>, answer: &mut Answer, op: &O, rule: &str) -> Result<(), Stop>
+>(alloc: Global, ctx: &Context<D>, answer: &mut Answer, op: &O, rule: TypeRule) -> Result<(), Stop>
     requires { IsLive ctx.now (AnyNode.Operation (O.pointer op.now)) }
 {
     if OperandSegmentInterface::<D>::verify(op, ctx).is_err() {
         return Err(Stop::Refused);
     }
     match rule {
-        "SegmentNOfType<1, Unit>" => put_verdict(
+        TypeRule::SecondOfUnit => put_verdict(
             answer,
             SegmentNOfType::<D, 1, UnitType>::verify(op, alloc, ctx),
         ),
-        "SegmentNOfType<2, Unit>" => put_verdict(
+        TypeRule::ThirdOfUnit => put_verdict(
             answer,
             SegmentNOfType::<D, 2, UnitType>::verify(op, alloc, ctx),
         ),
-        "SegmentNImplsTy<1, Function>" => put_verdict(
+        TypeRule::SecondOfFunction => put_verdict(
             answer,
             SegmentNImplsTy::<D, 1, FunctionTypeMark>::verify(op, ctx),
         ),
-        _ => return Err(Stop::Refused),
     }
     Ok(())
 }
 
-/// `segments OP` writes how many segments there are, `held OP` the operands and the sizes.
-pub fn ask_all<D: OpSet, O: OperandSegmentInterface<D>>(
+/// `segments OP` writes how many segments there are.
+pub fn ask_count<D: OpSet, O: OperandSegmentInterface<D>>(
     ctx: &Context<D>,
-    made: &Made,
     answer: &mut Answer,
     op: &O,
-    what: &str,
 ) -> Result<(), Stop>
     requires { IsLive ctx.now (AnyNode.Operation (O.pointer op.now)) }
 {
     if OperandSegmentInterface::<D>::verify(op, ctx).is_err() {
         return Err(Stop::Refused);
     }
-    if what == "segments" {
-        let count = op.num_segments(ctx);
-        answer.put_number(count as usize);
-        return Ok(());
+    let count = op.num_segments(ctx);
+    answer.put_number(count as usize);
+    Ok(())
+}
+
+/// `held OP` writes the operands and the sizes.
+pub fn ask_held<D: OpSet, O: OperandSegmentInterface<D>>(
+    ctx: &Context<D>,
+    made: &Made,
+    answer: &mut Answer,
+    op: &O,
+) -> Result<(), Stop>
+    requires { IsLive ctx.now (AnyNode.Operation (O.pointer op.now)) }
+{
+    if OperandSegmentInterface::<D>::verify(op, ctx).is_err() {
+        return Err(Stop::Refused);
     }
     let held = op.get_operation();
     for place in 0..held.get_num_operands(ctx) {

@@ -3,6 +3,7 @@ ghost use Rattle.plir_core.specs.ContextView.{IsLive};
 ghost use Rattle.plir_core.specs.declared.ptr.IRNode.{IRNode as AnyNode};
 
 use crate::flow_sets::asking::put_edges;
+use crate::flow_sets::flow_call::BranchEdit;
 use plir_flow::{BranchOpInterface, CallOpCallable, CallOpInterface, RegionBranchOpInterface};
 use plir_flow_sets::{BranchSet, CallSet, RegionEdgeSet, ToldBranch, ToldCall, ToldRegionEdges};
 use plir_iface::Op;
@@ -54,6 +55,7 @@ pub fn ask_branch<D: BranchSet, B: ToldBranch<D>>(
 pub fn edit_branch<D: BranchSet, B: ToldBranch<D>>(
     bench: &mut Bench<D>,
     branch: &B,
+    edit: BranchEdit,
     line: Line<'_>,
 ) -> Result<(), Stop>
     requires { IsLive bench.old.ctx (AnyNode.Operation (B.pointer branch.now)) }
@@ -66,21 +68,24 @@ pub fn edit_branch<D: BranchSet, B: ToldBranch<D>>(
         return Err(Stop::Refused);
     }
     let count = branch.successor_operands(alloc, ctx, successor)?.len();
-    if line.command == "drop" {
-        let place = number(line.third)?;
-        if place >= count {
-            return Err(Stop::Refused);
+    match edit {
+        BranchEdit::Drop => {
+            let place = number(line.third)?;
+            if place >= count {
+                return Err(Stop::Refused);
+            }
+            let value = branch.remove_successor_operand(ctx, successor, place);
+            made.put_value(answer, value);
         }
-        let value = branch.remove_successor_operand(ctx, successor, place);
-        made.put_value(answer, value);
-        return Ok(());
+        BranchEdit::Add => {
+            let value = made.value(ctx, line.third)?;
+            if count >= 1000 {
+                return Err(Stop::Refused);
+            }
+            let place = branch.add_successor_operand(ctx, successor, value)?;
+            answer.put_number(place);
+        }
     }
-    let value = made.value(ctx, line.third)?;
-    if count >= 1000 {
-        return Err(Stop::Refused);
-    }
-    let place = branch.add_successor_operand(ctx, successor, value)?;
-    answer.put_number(place);
     Ok(())
 }
 

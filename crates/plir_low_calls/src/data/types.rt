@@ -6,10 +6,14 @@ use plir_data::{
 };
 use plir_scripts::{Bench, Line, OwnSet, Stop, put_type_name};
 
+fn is_wide(word: &str) -> bool {
+    word == "wide"
+}
+
 /// `own-type narrow` or `own-type wide`: writes the name of the type.
 pub fn make_own<D: OwnSet>(bench: &mut Bench<D>, line: Line<'_>) -> Result<(), Stop> {
     bench.made.types.reserve(1)?;
-    let value = TypeObj::Own(D::own_type(line.first == "wide"));
+    let value = TypeObj::Own(D::own_type(is_wide(line.first)));
     if !value.is_live(&bench.ctx) {
         return Err(Stop::Refused);
     }

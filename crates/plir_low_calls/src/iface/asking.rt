@@ -2,6 +2,7 @@
 ghost use Rattle.plir_core.specs.ContextView.{IsLive};
 ghost use Rattle.plir_core.specs.declared.ptr.IRNode.{IRNode as AnyNode};
 
+use crate::iface::accessors::{CountedAccessor, FreeAccessor, RegionAccessor};
 use plir_core::{Context, LessThanN, Value};
 use plir_data::{OpSet, TypeHandle};
 use plir_iface::{
@@ -39,48 +40,54 @@ fn put_value(made: &Made, answer: &mut Answer, value: Option<Value>) {
 pub fn ask_counted<
     D: OpSet,
     O: NResultsInterface<D, 2> + NOpdsInterface<D, 2> + OneResultInterface<D> + OneOpdInterface<D>,
->(ctx: &Context<D>, made: &Made, answer: &mut Answer, op: &O, name: &str) -> Result<(), Stop>
+>(
+    ctx: &Context<D>,
+    made: &Made,
+    answer: &mut Answer,
+    op: &O,
+    accessor: CountedAccessor,
+) -> Result<(), Stop>
     requires { IsLive ctx.now (AnyNode.Operation (O.pointer op.now)) }
 {
     let last: LessThanN<2> = LessThanN::new(1).ok_or(Stop::Refused)?;
-    match name {
-        "OneResult.get_result" if OneResultInterface::<D>::verify(op, ctx).is_ok() => {
+    match accessor {
+        CountedAccessor::GetResult if OneResultInterface::<D>::verify(op, ctx).is_ok() => {
             made.put_value(answer, OneResultInterface::<D>::get_result(op, ctx))
         }
-        "OneOpd.get_operand" if OneOpdInterface::<D>::verify(op, ctx).is_ok() => {
+        CountedAccessor::GetOperand if OneOpdInterface::<D>::verify(op, ctx).is_ok() => {
             made.put_value(answer, OneOpdInterface::<D>::get_operand(op, ctx))
         }
-        "OneResult.result_type" if OneResultInterface::<D>::verify(op, ctx).is_ok() => {
+        CountedAccessor::ResultType if OneResultInterface::<D>::verify(op, ctx).is_ok() => {
             put_type(
                 made,
                 answer,
                 Some(OneResultInterface::<D>::result_type(op, ctx)),
             )
         }
-        "OneOpd.operand_type" if OneOpdInterface::<D>::verify(op, ctx).is_ok() => {
+        CountedAccessor::OperandType if OneOpdInterface::<D>::verify(op, ctx).is_ok() => {
             put_type(
                 made,
                 answer,
                 Some(OneOpdInterface::<D>::operand_type(op, ctx)),
             )
         }
-        "NResults<2>.get_result_i" if NResultsInterface::<D, 2>::verify(op, ctx).is_ok() => {
+        CountedAccessor::GetResultI if NResultsInterface::<D, 2>::verify(op, ctx).is_ok() => {
             made.put_value(
                 answer,
                 NResultsInterface::<D, 2>::get_result_i(op, ctx, last),
             )
         }
-        "NOpds<2>.get_operand_i" if NOpdsInterface::<D, 2>::verify(op, ctx).is_ok() => {
+        CountedAccessor::GetOperandI if NOpdsInterface::<D, 2>::verify(op, ctx).is_ok() => {
             made.put_value(answer, NOpdsInterface::<D, 2>::get_operand_i(op, ctx, last))
         }
-        "NResults<2>.result_type_i" if NResultsInterface::<D, 2>::verify(op, ctx).is_ok() => {
+        CountedAccessor::ResultTypeI if NResultsInterface::<D, 2>::verify(op, ctx).is_ok() => {
             put_type(
                 made,
                 answer,
                 Some(NResultsInterface::<D, 2>::result_type_i(op, ctx, last)),
             )
         }
-        "NOpds<2>.operand_type_i" if NOpdsInterface::<D, 2>::verify(op, ctx).is_ok() => {
+        CountedAccessor::OperandTypeI if NOpdsInterface::<D, 2>::verify(op, ctx).is_ok() => {
             put_type(
                 made,
                 answer,
@@ -96,18 +103,24 @@ pub fn ask_counted<
 pub fn ask_regions<
     D: OpSet,
     O: OneRegionInterface<D> + NRegionsInterface<D, 2> + SingleBlockRegionInterface<D>,
->(ctx: &Context<D>, made: &Made, answer: &mut Answer, op: &O, name: &str) -> Result<(), Stop>
+>(
+    ctx: &Context<D>,
+    made: &Made,
+    answer: &mut Answer,
+    op: &O,
+    accessor: RegionAccessor,
+) -> Result<(), Stop>
     requires { IsLive ctx.now (AnyNode.Operation (O.pointer op.now)) }
 {
     let last: LessThanN<2> = LessThanN::new(1).ok_or(Stop::Refused)?;
-    let region = match name {
-        "OneRegion.get_region" if OneRegionInterface::<D>::verify(op, ctx).is_ok() => {
+    let region = match accessor {
+        RegionAccessor::OneRegion if OneRegionInterface::<D>::verify(op, ctx).is_ok() => {
             OneRegionInterface::<D>::get_region(op, ctx)
         }
-        "NRegions<2>.get_region_i" if NRegionsInterface::<D, 2>::verify(op, ctx).is_ok() => {
+        RegionAccessor::NRegions if NRegionsInterface::<D, 2>::verify(op, ctx).is_ok() => {
             NRegionsInterface::<D, 2>::get_region_i(op, ctx, last)
         }
-        "SingleBlockRegion.get_body" => {
+        RegionAccessor::SingleBlockRegion => {
             if SingleBlockRegionInterface::<D>::verify(op, ctx).is_err()
                 || op.get_operation().num_regions(ctx) == 0
             {
@@ -131,34 +144,38 @@ pub fn ask_freely<
         + SameOperandsAndResultType<D>
         + AtMostOneRegionInterface<D>
         + RegionKindInterface<D>,
->(ctx: &Context<D>, made: &Made, answer: &mut Answer, op: &O, name: &str) -> Result<(), Stop>
+>(ctx: &Context<D>, made: &Made, answer: &mut Answer, op: &O, accessor: FreeAccessor)
     requires { IsLive ctx.now (AnyNode.Operation (O.pointer op.now)) }
 {
-    match name {
-        "OptionalResult.get_result_opt" => put_value(made, answer, op.get_result_opt(ctx)),
-        "OptionalOpd.get_operand_opt" => put_value(made, answer, op.get_operand_opt(ctx)),
-        "common_operand_type" => put_type(made, answer, op.common_operand_type(ctx)),
-        "common_result_type" => put_type(made, answer, op.common_result_type(ctx)),
-        "common_type" => put_type(made, answer, op.common_type(ctx)),
-        "AtMostOneRegion.get_region" => made.put_region(
+    match accessor {
+        FreeAccessor::GetResultOpt => put_value(made, answer, op.get_result_opt(ctx)),
+        FreeAccessor::GetOperandOpt => put_value(made, answer, op.get_operand_opt(ctx)),
+        FreeAccessor::CommonOperandType => put_type(made, answer, op.common_operand_type(ctx)),
+        FreeAccessor::CommonResultType => put_type(made, answer, op.common_result_type(ctx)),
+        FreeAccessor::CommonType => put_type(made, answer, op.common_type(ctx)),
+        FreeAccessor::GetRegion => made.put_region(
             answer,
             AtMostOneRegionInterface::<D>::get_region(op, ctx),
         ),
-        "has_ssa_dominance(0)" => answer.put_truth(RegionKindInterface::<D>::has_ssa_dominance(
-            op, 0,
-        )),
-        "has_ssa_dominance(1)" => answer.put_truth(RegionKindInterface::<D>::has_ssa_dominance(
-            op, 1,
-        )),
-        "verify_get_operand_n<2>" => match verify_get_operand_n::<D, 2>(op.get_operation(), ctx) {
+        FreeAccessor::FirstHasSSADominance => answer.put_truth(RegionKindInterface::<
+            D,
+        >::has_ssa_dominance(op, 0)),
+        FreeAccessor::SecondHasSSADominance => answer.put_truth(RegionKindInterface::<
+            D,
+        >::has_ssa_dominance(op, 1)),
+        FreeAccessor::VerifyGetOperandN => match verify_get_operand_n::<D, 2>(
+            op.get_operation(),
+            ctx,
+        ) {
             Ok(value) => made.put_value(answer, value),
             Err(refusal) => answer.put_shown(&refusal),
         },
-        "verify_get_result_n<0>" => match verify_get_result_n::<D, 0>(op.get_operation(), ctx) {
+        FreeAccessor::VerifyGetResultN => match verify_get_result_n::<D, 0>(
+            op.get_operation(),
+            ctx,
+        ) {
             Ok(value) => made.put_value(answer, value),
             Err(refusal) => answer.put_shown(&refusal),
         },
-        _ => return Err(Stop::Refused),
     }
-    Ok(())
 }

@@ -2,6 +2,7 @@
 ghost use Rattle.plir_core.specs.ContextView.{IsLive};
 ghost use Rattle.plir_core.specs.declared.ptr.IRNode.{IRNode as AnyNode};
 
+use crate::iface::rules::{MarkRule, OperandRule, PlaceRule, RegionRule, ResultRule, TypeRule};
 use plir_core::Context;
 use plir_data::{FunctionTypeMark, IntegerType, Memory, OpSet, UnitType, VerifyErr};
 use plir_iface::{
@@ -36,64 +37,109 @@ fn put_free(answer: &mut Answer, verdict: Result<(), Memory>) {
     }
 }
 
-/// Interfaces of numbers of results and operands, and of regions.
-pub fn verify_counts<
+/// Interfaces of numbers of results.
+pub fn verify_results<
     D: OpSet,
     O: NResultsInterface<D, 2>
         + OneResultInterface<D>
         + AtMostNResultsInterface<D, 2>
         + OptionalResultInterface<D>
-        + AtLeastNResultsInterface<D, 2>
-        + NOpdsInterface<D, 2>
+        + AtLeastNResultsInterface<D, 2>,
+>(ctx: &Context<D>, answer: &mut Answer, op: &O, rule: ResultRule)
+    requires { IsLive ctx.now (AnyNode.Operation (O.pointer op.now)) }
+{
+    match rule {
+        ResultRule::NResults => put_verdict(answer, NResultsInterface::<D, 2>::verify(op, ctx)),
+        ResultRule::OneResult => put_verdict(answer, OneResultInterface::<D>::verify(op, ctx)),
+        ResultRule::AtMostNResults => put_verdict(
+            answer,
+            AtMostNResultsInterface::<D, 2>::verify(op, ctx),
+        ),
+        ResultRule::OptionalResult => put_verdict(
+            answer,
+            OptionalResultInterface::<D>::verify(op, ctx),
+        ),
+        ResultRule::AtLeastNResults => put_verdict(
+            answer,
+            AtLeastNResultsInterface::<D, 2>::verify(op, ctx),
+        ),
+    }
+}
+
+/// Interfaces of numbers of operands.
+pub fn verify_operands<
+    D: OpSet,
+    O: NOpdsInterface<D, 2>
         + OneOpdInterface<D>
         + AtMostNOpdsInterface<D, 2>
         + OptionalOpdInterface<D>
-        + AtLeastNOpdsInterface<D, 2>
-        + NRegionsInterface<D, 2>
+        + AtLeastNOpdsInterface<D, 2>,
+>(ctx: &Context<D>, answer: &mut Answer, op: &O, rule: OperandRule)
+    requires { IsLive ctx.now (AnyNode.Operation (O.pointer op.now)) }
+{
+    match rule {
+        OperandRule::NOpds => put_verdict(answer, NOpdsInterface::<D, 2>::verify(op, ctx)),
+        OperandRule::OneOpd => put_verdict(answer, OneOpdInterface::<D>::verify(op, ctx)),
+        OperandRule::AtMostNOpds => put_verdict(
+            answer,
+            AtMostNOpdsInterface::<D, 2>::verify(op, ctx),
+        ),
+        OperandRule::OptionalOpd => put_verdict(answer, OptionalOpdInterface::<D>::verify(op, ctx)),
+        OperandRule::AtLeastNOpds => put_verdict(
+            answer,
+            AtLeastNOpdsInterface::<D, 2>::verify(op, ctx),
+        ),
+    }
+}
+
+/// Interfaces of regions.
+pub fn verify_regions<
+    D: OpSet,
+    O: NRegionsInterface<D, 2>
         + OneRegionInterface<D>
-        + AtMostOneRegionInterface<D>
+        + AtMostNRegionsInterface<D, 1>
+        + SingleBlockRegionInterface<D>,
+>(ctx: &Context<D>, answer: &mut Answer, op: &O, rule: RegionRule)
+    requires { IsLive ctx.now (AnyNode.Operation (O.pointer op.now)) }
+{
+    match rule {
+        RegionRule::NRegions => put_verdict(answer, NRegionsInterface::<D, 2>::verify(op, ctx)),
+        RegionRule::OneRegion => put_verdict(answer, OneRegionInterface::<D>::verify(op, ctx)),
+        RegionRule::AtMostNRegions => put_verdict(
+            answer,
+            AtMostNRegionsInterface::<D, 1>::verify(op, ctx),
+        ),
+        RegionRule::SingleBlockRegion => put_verdict(
+            answer,
+            SingleBlockRegionInterface::<D>::verify(op, ctx),
+        ),
+    }
+}
+
+/// Interfaces without a rule.
+pub fn verify_marks<
+    D: OpSet,
+    O: AtMostOneRegionInterface<D>
         + RegionKindInterface<D>
         + IsTerminatorInterface<D>
         + NoTerminatorInterface<D>
         + IsolatedFromAboveInterface<D>,
->(ctx: &Context<D>, answer: &mut Answer, op: &O, name: &str) -> Result<(), Stop>
+>(ctx: &Context<D>, answer: &mut Answer, op: &O, rule: MarkRule)
     requires { IsLive ctx.now (AnyNode.Operation (O.pointer op.now)) }
 {
-    match name {
-        "NResults<2>" => put_verdict(answer, NResultsInterface::<D, 2>::verify(op, ctx)),
-        "OneResult" => put_verdict(answer, OneResultInterface::<D>::verify(op, ctx)),
-        "AtMostNResults<2>" => put_verdict(
+    match rule {
+        MarkRule::AtMostOneRegion => put_free(
             answer,
-            AtMostNResultsInterface::<D, 2>::verify(op, ctx),
+            AtMostOneRegionInterface::<D>::verify(op, ctx),
         ),
-        "OptionalResult" => put_verdict(answer, OptionalResultInterface::<D>::verify(op, ctx)),
-        "AtLeastNResults<2>" => put_verdict(
+        MarkRule::RegionKind => put_free(answer, RegionKindInterface::<D>::verify(op, ctx)),
+        MarkRule::IsTerminator => put_free(answer, IsTerminatorInterface::<D>::verify(op, ctx)),
+        MarkRule::NoTerminator => put_free(answer, NoTerminatorInterface::<D>::verify(op, ctx)),
+        MarkRule::IsolatedFromAbove => put_free(
             answer,
-            AtLeastNResultsInterface::<D, 2>::verify(op, ctx),
+            IsolatedFromAboveInterface::<D>::verify(op, ctx),
         ),
-        "NOpds<2>" => put_verdict(answer, NOpdsInterface::<D, 2>::verify(op, ctx)),
-        "OneOpd" => put_verdict(answer, OneOpdInterface::<D>::verify(op, ctx)),
-        "AtMostNOpds<2>" => put_verdict(answer, AtMostNOpdsInterface::<D, 2>::verify(op, ctx)),
-        "OptionalOpd" => put_verdict(answer, OptionalOpdInterface::<D>::verify(op, ctx)),
-        "AtLeastNOpds<2>" => put_verdict(answer, AtLeastNOpdsInterface::<D, 2>::verify(op, ctx)),
-        "NRegions<2>" => put_verdict(answer, NRegionsInterface::<D, 2>::verify(op, ctx)),
-        "OneRegion" => put_verdict(answer, OneRegionInterface::<D>::verify(op, ctx)),
-        "AtMostNRegions<1>" => put_verdict(
-            answer,
-            AtMostNRegionsInterface::<D, 1>::verify(op, ctx),
-        ),
-        "SingleBlockRegion" => put_verdict(
-            answer,
-            SingleBlockRegionInterface::<D>::verify(op, ctx),
-        ),
-        "AtMostOneRegion" => put_free(answer, AtMostOneRegionInterface::<D>::verify(op, ctx)),
-        "RegionKind" => put_free(answer, RegionKindInterface::<D>::verify(op, ctx)),
-        "IsTerminator" => put_free(answer, IsTerminatorInterface::<D>::verify(op, ctx)),
-        "NoTerminator" => put_free(answer, NoTerminatorInterface::<D>::verify(op, ctx)),
-        "IsolatedFromAbove" => put_free(answer, IsolatedFromAboveInterface::<D>::verify(op, ctx)),
-        _ => return Err(Stop::Refused),
     }
-    Ok(())
 }
 
 /// Interfaces of types of all operands and results.
@@ -104,35 +150,33 @@ pub fn verify_types<
         + AllResultsOfType<D, UnitType>
         + AllOperandsImplsTy<D, FunctionTypeMark>
         + AllResultsImplsTy<D, FunctionTypeMark>,
->(alloc: Global, ctx: &Context<D>, answer: &mut Answer, op: &O, name: &str) -> Result<(), Stop>
+>(alloc: Global, ctx: &Context<D>, answer: &mut Answer, op: &O, rule: TypeRule)
     requires { IsLive ctx.now (AnyNode.Operation (O.pointer op.now)) }
 {
-    match name {
-        "SameOperandsType" => put_verdict(answer, SameOperandsType::<D>::verify(op, ctx)),
-        "SameResultsType" => put_verdict(answer, SameResultsType::<D>::verify(op, ctx)),
-        "SameOperandsAndResultType" => put_verdict(
+    match rule {
+        TypeRule::SameOperandsType => put_verdict(answer, SameOperandsType::<D>::verify(op, ctx)),
+        TypeRule::SameResultsType => put_verdict(answer, SameResultsType::<D>::verify(op, ctx)),
+        TypeRule::SameOperandsAndResultType => put_verdict(
             answer,
             SameOperandsAndResultType::<D>::verify(op, ctx),
         ),
-        "AllOperandsOfType<Unit>" => put_verdict(
+        TypeRule::AllOperandsOfType => put_verdict(
             answer,
             AllOperandsOfType::<D, UnitType>::verify(op, alloc, ctx),
         ),
-        "AllResultsOfType<Unit>" => put_verdict(
+        TypeRule::AllResultsOfType => put_verdict(
             answer,
             AllResultsOfType::<D, UnitType>::verify(op, alloc, ctx),
         ),
-        "AllOperandsImplsTy<Function>" => put_verdict(
+        TypeRule::AllOperandsImplsTy => put_verdict(
             answer,
             AllOperandsImplsTy::<D, FunctionTypeMark>::verify(op, ctx),
         ),
-        "AllResultsImplsTy<Function>" => put_verdict(
+        TypeRule::AllResultsImplsTy => put_verdict(
             answer,
             AllResultsImplsTy::<D, FunctionTypeMark>::verify(op, ctx),
         ),
-        _ => return Err(Stop::Refused),
     }
-    Ok(())
 }
 
 /// Interfaces of types at places.
@@ -147,47 +191,45 @@ pub fn verify_places<
         + ResultsMNOfType<D, 0, 2, IntegerType>
         + OperandsMNImplsTy<D, 0, 1, FunctionTypeMark>
         + ResultsMNImplsTy<D, 0, 4294967295, FunctionTypeMark>,
->(ctx: &Context<D>, answer: &mut Answer, op: &O, name: &str) -> Result<(), Stop>
+>(ctx: &Context<D>, answer: &mut Answer, op: &O, rule: PlaceRule)
     requires { IsLive ctx.now (AnyNode.Operation (O.pointer op.now)) }
 {
-    match name {
-        "OperandNOfType<0, Unit>" => put_verdict(
+    match rule {
+        PlaceRule::FirstOperandOfType => put_verdict(
             answer,
             OperandNOfType::<D, 0, UnitType>::verify(op, ctx),
         ),
-        "ResultNOfType<0, Unit>" => put_verdict(
+        PlaceRule::FirstResultOfType => put_verdict(
             answer,
             ResultNOfType::<D, 0, UnitType>::verify(op, ctx),
         ),
-        "OperandNImplsTy<1, Function>" => put_verdict(
+        PlaceRule::SecondOperandImplsTy => put_verdict(
             answer,
             OperandNImplsTy::<D, 1, FunctionTypeMark>::verify(op, ctx),
         ),
-        "ResultNImplsTy<1, Function>" => put_verdict(
+        PlaceRule::SecondResultImplsTy => put_verdict(
             answer,
             ResultNImplsTy::<D, 1, FunctionTypeMark>::verify(op, ctx),
         ),
-        "OperandsMNOfType<1, -1, Integer>" => put_verdict(
+        PlaceRule::LaterOperandsOfType => put_verdict(
             answer,
             OperandsMNOfType::<D, 1, 4294967295, IntegerType>::verify(op, ctx),
         ),
-        "OperandsMNOfType<0, 2, Integer>" => put_verdict(
+        PlaceRule::FrontOperandsOfType => put_verdict(
             answer,
             OperandsMNOfType::<D, 0, 2, IntegerType>::verify(op, ctx),
         ),
-        "ResultsMNOfType<0, 2, Integer>" => put_verdict(
+        PlaceRule::FrontResultsOfType => put_verdict(
             answer,
             ResultsMNOfType::<D, 0, 2, IntegerType>::verify(op, ctx),
         ),
-        "OperandsMNImplsTy<0, 1, Function>" => put_verdict(
+        PlaceRule::FrontOperandsImplTy => put_verdict(
             answer,
             OperandsMNImplsTy::<D, 0, 1, FunctionTypeMark>::verify(op, ctx),
         ),
-        "ResultsMNImplsTy<0, -1, Function>" => put_verdict(
+        PlaceRule::AllResultsImplTy => put_verdict(
             answer,
             ResultsMNImplsTy::<D, 0, 4294967295, FunctionTypeMark>::verify(op, ctx),
         ),
-        _ => return Err(Stop::Refused),
     }
-    Ok(())
 }

@@ -93,6 +93,26 @@ pub fn clone_tree<D: OpSet>(bench: &mut Bench<D>, line: Line<'_>) -> Result<(), 
     Ok(())
 }
 
+// What a pair has an image for.
+#[derive(Clone, Copy)]
+enum Mapped {
+    Call,
+    Value,
+    Block,
+}
+
+impl Mapped {
+    fn of(name: &str) -> Self {
+        if name == "call" {
+            Mapped::Call
+        } else if name.contains('.') {
+            Mapped::Value
+        } else {
+            Mapped::Block
+        }
+    }
+}
+
 // The map that pairs make.
 fn read_map<D: OpSet>(
     alloc: Global,
@@ -105,12 +125,10 @@ fn read_map<D: OpSet>(
         let Some((from, to)) = pair.split_once('=') else {
             return Err(Stop::Refused);
         };
-        if from == "call" {
-            map.set_call(made.op(ctx, to)?.loc(ctx));
-        } else if from.contains('.') {
-            map.map_value(made.value(ctx, from)?, made.value(ctx, to)?)?;
-        } else {
-            map.map_block(made.block(ctx, from)?, made.block(ctx, to)?)?;
+        match Mapped::of(from) {
+            Mapped::Call => map.set_call(made.op(ctx, to)?.loc(ctx)),
+            Mapped::Value => map.map_value(made.value(ctx, from)?, made.value(ctx, to)?)?,
+            Mapped::Block => map.map_block(made.block(ctx, from)?, made.block(ctx, to)?)?,
         }
     }
     Ok(map)

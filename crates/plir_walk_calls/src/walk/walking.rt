@@ -10,6 +10,7 @@ use crate::walk::from_any::{changing, changing_plainly};
 use crate::walk::growing::{grow, unlabel};
 use crate::walk::pass::{module_with_function, note, reshape};
 use crate::walk::plan::{Plan, read_plan};
+use crate::walk::walk_call::{PlainWalking, Walking};
 use plir_core::{Context, IRNode};
 use plir_data::OpSet;
 use plir_scripts::{Answer, Bench, Line, Made, ScriptSet, Stop};
@@ -25,18 +26,18 @@ use std::ops::ControlFlow;
 /// Does what a line says that walks: `look SETTING ROOT PLAN` and `plainly-look SETTING ROOT PLAN` by a callback that
 /// only reads, `change SETTING ROOT PLAN` and `plainly-change SETTING ROOT PLAN` by one that follows the plan. Writes
 /// the called nodes and the walk's answer. Nodes that the walk has made are named as they are called.
-pub fn walk<D: OpSet>(bench: &mut Bench<D>, line: Line<'_>) -> Result<(), Stop> {
+pub fn walk<D: OpSet>(bench: &mut Bench<D>, walking: Walking, line: Line<'_>) -> Result<(), Stop> {
     let mut called = bench.take_list()?;
     let config = config_of(line.first)?;
     let root = bench.made.live(&bench.ctx, line.second)?;
-    let plan = read_plan(bench, line.tail)?;
-    let found = match line.command {
-        "look" => Ok(look_at(&bench.ctx, &config, root, &plan, &mut called)),
-        "plainly-look" => {
+    let plan = read_plan(bench.alloc, &bench.made, line.tail)?;
+    let found = match walking {
+        Walking::Look => Ok(look_at(&bench.ctx, &config, root, &plan, &mut called)),
+        Walking::PlainlyLook => {
             look_plainly(&bench.ctx, &config, root, &mut called);
             Ok(walk_advance())
         }
-        "change" => change(
+        Walking::Change => change(
             bench.alloc,
             &mut bench.ctx,
             &config,
@@ -44,7 +45,7 @@ pub fn walk<D: OpSet>(bench: &mut Bench<D>, line: Line<'_>) -> Result<(), Stop> 
             &plan,
             &mut called,
         ),
-        _ => change_plainly(
+        Walking::PlainlyChange => change_plainly(
             bench.alloc,
             &mut bench.ctx,
             &config,
@@ -53,10 +54,7 @@ pub fn walk<D: OpSet>(bench: &mut Bench<D>, line: Line<'_>) -> Result<(), Stop> 
             &mut called,
         ),
     };
-    name_new(&mut bench.made, called.as_slice())?;
-    put_walk(&bench.made, &mut bench.answer, called.as_slice(), found);
-    bench.give_back(called);
-    Ok(())
+    end_walk(bench, called, found)
 }
 
 /// A setting: `pre-fwd` and its kin, or three of them for the regions of operations, the operations of blocks and the
@@ -90,18 +88,19 @@ fn pair_of(word: &str) -> Result<(Order, Direction), Stop> {
 
 /// Does what a line says that walks under an operation: `grow SETTING OP` gives each called operation a region,
 /// `unlabel SETTING OP` takes the label from each called block. Writes the called nodes and the walk's answer.
-pub fn walk_plainly<D: OpSet>(bench: &mut Bench<D>, line: Line<'_>) -> Result<(), Stop> {
+pub fn walk_plainly<D: OpSet>(
+    bench: &mut Bench<D>,
+    walking: PlainWalking,
+    line: Line<'_>,
+) -> Result<(), Stop> {
     let config = config_of(line.first)?;
     let root = bench.made.op(&bench.ctx, line.second)?;
-    let mut called = Vec::new(bench.alloc);
-    called.reserve(32)?;
-    let found = match line.command {
-        "grow" => grow(&mut bench.ctx, &config, root, &mut called),
-        _ => unlabel(&mut bench.ctx, &config, root, &mut called),
+    let mut called = bench.take_list()?;
+    let found = match walking {
+        PlainWalking::Grow => grow(&mut bench.ctx, &config, root, &mut called),
+        PlainWalking::Unlabel => unlabel(&mut bench.ctx, &config, root, &mut called),
     };
-    name_new(&mut bench.made, called.as_slice())?;
-    put_walk(&bench.made, &mut bench.answer, called.as_slice(), found);
-    Ok(())
+    end_walk(bench, called, found)
 }
 
 /// Walks with a callback that notes its node and answers by the plan.
@@ -193,19 +192,28 @@ fn change_plainly<D: OpSet>(
 /// the module prints.
 pub fn run_pass<D: ScriptSet>(bench: &mut Bench<D>, line: Line<'_>) -> Result<(), Stop> {
     let kind = D::own_kind(line.first).ok_or(Stop::Refused)?;
-    let mut called = Vec::new(bench.alloc);
-    called.reserve(32)?;
+    let mut called = bench.take_list()?;
     let module = module_with_function(bench.alloc, &mut bench.ctx, kind)?;
     let printed = note(bench.alloc, &mut bench.ctx, module, line.tail).ok_or(Stop::Refused)?;
     bench.answer.put(&printed);
     let found = reshape(bench.alloc, &mut bench.ctx, module, &mut called);
+    end_walk(bench, called, found)
+}
+
+/// Names the called nodes that have no name, writes all and the walk's answer, and gives the list of them back.
+pub fn end_walk<D: OpSet>(
+    bench: &mut Bench<D>,
+    called: Vec<IRNode>,
+    found: Result<WalkResult<u32>, CallLimit>,
+) -> Result<(), Stop> {
     name_new(&mut bench.made, called.as_slice())?;
     put_walk(&bench.made, &mut bench.answer, called.as_slice(), found);
+    bench.give_back(called);
     Ok(())
 }
 
-/// Names the called nodes that have no name.
-pub fn name_new(made: &mut Made, called: &[IRNode]) -> Result<(), Stop> {
+// Names the called nodes that have no name.
+fn name_new(made: &mut Made, called: &[IRNode]) -> Result<(), Stop> {
     for node in called {
         match node {
             IRNode::Operation(op) if !made.ops.contains(op) => made.ops.push(*op)?,
@@ -217,8 +225,8 @@ pub fn name_new(made: &mut Made, called: &[IRNode]) -> Result<(), Stop> {
     Ok(())
 }
 
-/// Writes the names of the called nodes, and the walk's answer.
-pub fn put_walk(
+// Writes the names of the called nodes, and the walk's answer.
+fn put_walk(
     made: &Made,
     answer: &mut Answer,
     called: &[IRNode],
