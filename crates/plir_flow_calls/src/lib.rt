@@ -4,3 +4,4 @@
 
 pub mod flow;
 pub mod flow_sets;
+mod sizes;

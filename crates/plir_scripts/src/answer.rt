@@ -1,7 +1,7 @@
 //! The answer of a call, as it is written.
 
 use crate::stop::Stop;
-use plir_data::Memory;
+use plir_data::{Memory, VerifyErr};
 use std::alloc::Global;
 use std::fmt::{Debug, Display, Write};
 
@@ -68,6 +68,15 @@ impl Answer {
     pub fn put_debug<T: Debug>(&mut self, value: &T) {
         if write!(self.text, "{value:?}").is_err() {
             self.note_lost();
+        }
+    }
+
+    /// Writes `ok`, or the text of the refusal.
+    pub fn put_verdict<E: Display + Drop>(&mut self, verdict: Result<(), VerifyErr<E>>) {
+        match verdict {
+            Ok(()) => self.put("ok"),
+            Err(VerifyErr::Refused { err, .. }) => self.put_shown(&err),
+            Err(VerifyErr::Memory) => self.note_lost(),
         }
     }
 

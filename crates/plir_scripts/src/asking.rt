@@ -243,6 +243,13 @@ fn show_use<D: OpSet>(
     Ok(())
 }
 
+// Writes an operation and one of its places.
+fn put_place(made: &Made, answer: &mut Answer, op: Ptr<Operation>, place: usize) {
+    made.put_op(answer, Some(op));
+    answer.put(":");
+    answer.put_number(place);
+}
+
 // The operations that use a value, each with the place where it does.
 fn users<D: OpSet>(
     alloc: Global,
@@ -252,9 +259,7 @@ fn users<D: OpSet>(
     value: Value,
 ) -> Result<(), Stop> {
     for used in value.uses(alloc, ctx)? {
-        made.put_op(answer, Some(used.user_op()));
-        answer.put(":");
-        answer.put_number(used.opd_idx());
+        put_place(made, answer, used.user_op(), used.opd_idx());
     }
     Ok(())
 }
@@ -268,9 +273,7 @@ fn branches<D: OpSet>(
     block: Ptr<BasicBlock>,
 ) -> Result<(), Stop> {
     for used in block.uses(alloc, ctx)? {
-        made.put_op(answer, Some(used.branch_op()));
-        answer.put(":");
-        answer.put_number(used.succ_idx());
+        put_place(made, answer, used.branch_op(), used.succ_idx());
     }
     Ok(())
 }

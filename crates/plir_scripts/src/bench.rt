@@ -135,7 +135,7 @@ impl<D: OpSet> Bench<D> {
     // Asks whether the answer is this one.
     fn expect(&self, line: &str, answer: &str) -> Result<(), Mismatch> {
         let found = self.answer.text()?;
-        if found.trim_start() == answer {
+        if is_answer(found, answer) {
             return Ok(());
         }
         Err(Mismatch::Answer {
@@ -226,6 +226,10 @@ fn state_after<D: OpSet, L: Layer<D>>(
 ) -> Result<Answer, Stop> {
     let mut bench: Bench<D> = Bench::new(alloc, max_nodes);
     bench.state_after::<L>(script, count)
+}
+
+fn is_answer(found: &str, answer: &str) -> bool {
+    found.trim_start() == answer
 }
 
 // The call and the answer of a line.

@@ -21,7 +21,7 @@ enum Form<'a> {
     Single(Single<'a>),
 }
 
-// How an attribute is written that is neither a list nor a dictionary, or has a text.
+// How any other one is written, and each that has a text.
 #[derive(Clone, Copy)]
 enum Single<'a> {
     // That of the op set, marked or not.

@@ -3,7 +3,7 @@ ghost use Rattle.plir_core.specs.ContextView.{IsLive};
 ghost use Rattle.plir_core.specs.declared.ptr.IRNode.{IRNode as AnyNode};
 
 use crate::flow::flow_call::{BranchCall, CountedCall};
-use crate::flow::grouping::{put_values, put_verdict};
+use crate::flow::grouping::put_placed;
 use plir_core::{Context, LessThanN};
 use plir_data::OpSet;
 use plir_flow::{BranchOpInterface, NSuccsInterface, OneSuccInterface};
@@ -28,7 +28,7 @@ pub fn call_branch<D: OpSet, B: BranchOpInterface<D>>(
             ask_forwarded(alloc, ctx, made, answer, op, number(line.second)?)
         }
         BranchCall::Verify => {
-            put_verdict(answer, BranchOpInterface::<D>::verify(op, alloc, ctx));
+            answer.put_verdict(BranchOpInterface::<D>::verify(op, alloc, ctx));
             Ok(())
         }
     }
@@ -46,8 +46,8 @@ pub fn call_counted<D: OpSet, B: NSuccsInterface<D, 2> + OneSuccInterface<D>>(
 {
     let (ctx, answer) = (&bench.ctx, &mut bench.answer);
     match call {
-        CountedCall::VerifyTwo => put_verdict(answer, NSuccsInterface::<D, 2>::verify(op, ctx)),
-        CountedCall::VerifyOne => put_verdict(answer, OneSuccInterface::<D>::verify(op, ctx)),
+        CountedCall::VerifyTwo => answer.put_verdict(NSuccsInterface::<D, 2>::verify(op, ctx)),
+        CountedCall::VerifyOne => answer.put_verdict(OneSuccInterface::<D>::verify(op, ctx)),
         CountedCall::Successor => return ask_successor(ctx, &bench.made, answer, op),
         CountedCall::Any(call) => return call_branch(bench, op, call, line),
     }
@@ -95,12 +95,7 @@ fn ask_forwarded<D: OpSet, B: BranchOpInterface<D>>(
     }
     let values = op.successor_operands(alloc, ctx, succ)?;
     let range = op.successor_operand_range(ctx, succ);
-    let (start, end) = (range.start, range.end);
-    answer.put_number(start);
-    answer.put(" to ");
-    answer.put_number(end);
-    answer.put(":");
-    put_values(made, answer, values.as_slice());
+    put_placed(made, answer, range, values.as_slice());
     Ok(())
 }
 

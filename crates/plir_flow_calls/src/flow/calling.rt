@@ -3,7 +3,7 @@ ghost use Rattle.plir_core.specs.ContextView.{IsLive};
 ghost use Rattle.plir_core.specs.declared.ptr.IRNode.{IRNode as AnyNode};
 
 use crate::flow::flow_call::{CallCall, CallQuestion};
-use crate::flow::grouping::{put_values, put_verdict};
+use crate::flow::grouping::put_values;
 use plir_core::Context;
 use plir_data::OpSet;
 use plir_flow::{CallOpCallable, CallOpInterface};
@@ -44,8 +44,8 @@ fn ask_call<D: OpSet, C: CallOpInterface<D> + Drop>(
     requires { IsLive ctx.now (AnyNode.Operation (C.pointer op.now)) }
 {
     match question {
-        CallQuestion::Layout => put_verdict(answer, op.verify_call_layout(alloc, ctx)),
-        CallQuestion::Verify => put_verdict(answer, op.verify(ctx)),
+        CallQuestion::Layout => answer.put_verdict(op.verify_call_layout(alloc, ctx)),
+        CallQuestion::Verify => answer.put_verdict(op.verify(ctx)),
         CallQuestion::Arguments => return ask_arguments(alloc, ctx, made, answer, op),
     }
     Ok(())

@@ -2,11 +2,9 @@
 use crate::flow::edge_question::{EdgeCall, EdgeQuestion};
 use crate::flow::edge_reading::{edges_of, region_of};
 use crate::flow::edged::Edged;
-use crate::flow::edging::{ask_edges, put_same, verify_loop};
-use crate::flow::grouping::put_verdict;
+use crate::flow::edging::{ask_edges, put_same, verify_edges, verify_loop};
 use crate::flow::looping::Loop;
 use crate::flow::refusing::Refusing;
-use plir_flow::RegionBranchOpInterface;
 use plir_scripts::{Bench, Layer, Line, Mismatch, NodeCalls, SampleSet, Stop, play, split_word};
 use std::alloc::Global;
 
@@ -33,7 +31,7 @@ fn ask_edged<D: Refusing>(bench: &mut Bench<D>, line: Line<'_>) -> Result<(), St
     match EdgeQuestion::of(line.second) {
         EdgeQuestion::Same => put_same(alloc, answer, &edges),
         EdgeQuestion::Verify => {
-            put_verdict(answer, any.verify(alloc, ctx));
+            verify_edges(alloc, ctx, answer, &any);
             Ok(())
         }
         EdgeQuestion::Standing(asked) => {

@@ -4,7 +4,7 @@ ghost use Rattle.plir_core.specs.declared.ptr.IRNode.{IRNode as AnyNode};
 
 use crate::flow::edge_question::{EndQuestion, RegionQuestion, StandingQuestion};
 use crate::flow::edge_reading::{point_of, region_of, successor_of};
-use crate::flow::grouping::{put_values, put_verdict};
+use crate::flow::grouping::put_values;
 use plir_core::{Context, Ptr, Region, Use, Value};
 use plir_data::OpSet;
 use plir_flow::{RegionBranchOpInterface, RegionBranchPoint, RegionEdge, RegionSuccessor};
@@ -64,6 +64,18 @@ pub fn put_same(alloc: Global, answer: &mut Answer, edges: &[RegionEdge]) -> Res
         answer.put(if copy == *first { " yes" } else { " no" });
     }
     Ok(())
+}
+
+/// `edges OP verify`.
+pub fn verify_edges<D: OpSet, O: RegionBranchOpInterface<D>>(
+    alloc: Global,
+    ctx: &Context<D>,
+    answer: &mut Answer,
+    op: &O,
+)
+    requires { IsLive ctx.now (AnyNode.Operation (O.pointer op.now)) }
+{
+    answer.put_verdict(op.verify(alloc, ctx));
 }
 
 /// The questions about edges that stand as they should.
@@ -186,7 +198,7 @@ pub fn verify_loop<D: OpSet, O: RegionBranchOpInterface<D>>(
 ) -> Result<(), Stop>
     requires { IsLive ctx.now (AnyNode.Operation (O.pointer any.now)) }
 {
-    put_verdict(answer, any.verify(alloc, ctx));
+    verify_edges(alloc, ctx, answer, any);
     if any.verify_region_edges_layout(alloc, ctx).is_ok() {
         put_edges(made, answer, &any.region_edges(alloc, ctx)?);
     }

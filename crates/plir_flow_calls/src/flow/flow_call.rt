@@ -135,7 +135,7 @@ impl BranchCall {
 }
 
 impl CountedCall {
-    /// The call of a command, if it is one on branches: `branch` verifies, by the rule that stands behind the operation.
+    /// The call of a command, if it is one on branches: `branch` verifies, by a rule if there is one of the name.
     pub fn of(command: &str, rule: &str) -> Option<Self> {
         match (command, rule) {
             ("branch", "NSuccs<2>") => Some(CountedCall::VerifyTwo),

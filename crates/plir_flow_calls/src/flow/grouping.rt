@@ -4,27 +4,26 @@ ghost use Rattle.plir_core.specs.ContextView.{IsLive};
 ghost use Rattle.plir_core.specs.declared.ptr.IRNode.{IRNode as AnyNode};
 
 use crate::flow::grouped::Grouped;
+use crate::sizes::{put_range, sizes_of};
 use plir_core::{Context, Value};
-use plir_data::{FunctionTypeMark, Memory, OpSet, OperandSegmentSizesAttr, UnitType, VerifyErr};
+use plir_data::{FunctionTypeMark, Memory, OpSet, OperandSegmentSizesAttr, UnitType};
 use plir_flow::{OperandSegmentInterface, SegmentNImplsTy, SegmentNOfType};
 use plir_scripts::{Answer, Bench, Line, Made, Stop, number, split_word};
 use std::alloc::Global;
-use std::fmt::Display;
-
-/// Writes `ok`, or the text of the refusal.
-pub fn put_verdict<E: Display + Drop>(answer: &mut Answer, verdict: Result<(), VerifyErr<E>>) {
-    match verdict {
-        Ok(()) => answer.put("ok"),
-        Err(VerifyErr::Refused { err, .. }) => answer.put_shown(&err),
-        Err(VerifyErr::Memory) => answer.note_lost(),
-    }
-}
+use std::ops::Range;
 
 /// Writes the names of values.
 pub fn put_values(made: &Made, answer: &mut Answer, values: &[Value]) {
     for value in values {
         made.put_value(answer, *value);
     }
+}
+
+/// Writes places, and the values that stand there.
+pub fn put_placed(made: &Made, answer: &mut Answer, range: Range<usize>, values: &[Value]) {
+    put_range(answer, range);
+    answer.put(":");
+    put_values(made, answer, values);
 }
 
 // Writes sizes.
@@ -43,7 +42,7 @@ pub fn verify<D: OpSet, O: OperandSegmentInterface<D>>(
 ) -> Result<(), Stop>
     requires { IsLive ctx.now (AnyNode.Operation (O.pointer op.now)) }
 {
-    put_verdict(answer, OperandSegmentInterface::<D>::verify(op, ctx));
+    answer.put_verdict(OperandSegmentInterface::<D>::verify(op, ctx));
     Ok(())
 }
 
@@ -83,18 +82,17 @@ pub fn verify_types<
         return Err(Stop::Refused);
     }
     match rule {
-        TypeRule::SecondOfUnit => put_verdict(
-            answer,
-            SegmentNOfType::<D, 1, UnitType>::verify(op, alloc, ctx),
-        ),
-        TypeRule::ThirdOfUnit => put_verdict(
-            answer,
-            SegmentNOfType::<D, 2, UnitType>::verify(op, alloc, ctx),
-        ),
-        TypeRule::SecondOfFunction => put_verdict(
-            answer,
-            SegmentNImplsTy::<D, 1, FunctionTypeMark>::verify(op, ctx),
-        ),
+        TypeRule::SecondOfUnit => answer.put_verdict(SegmentNOfType::<D, 1, UnitType>::verify(
+            op, alloc, ctx,
+        )),
+        TypeRule::ThirdOfUnit => answer.put_verdict(SegmentNOfType::<D, 2, UnitType>::verify(
+            op, alloc, ctx,
+        )),
+        TypeRule::SecondOfFunction => answer.put_verdict(SegmentNImplsTy::<
+            D,
+            1,
+            FunctionTypeMark,
+        >::verify(op, ctx)),
     }
     Ok(())
 }
@@ -169,12 +167,7 @@ pub fn ask_segment<D: OpSet, O: OperandSegmentInterface<D>>(
     }
     let values = op.get_segment(alloc, ctx, seg)?;
     let range = op.segment_range(ctx, seg);
-    let (start, end) = (range.start, range.end);
-    answer.put_number(start);
-    answer.put(" to ");
-    answer.put_number(end);
-    answer.put(":");
-    put_values(made, answer, values.as_slice());
+    put_placed(made, answer, range, values.as_slice());
     Ok(())
 }
 
@@ -213,16 +206,9 @@ pub fn set_sizes<D: OpSet, O: OperandSegmentInterface<D>>(
 ) -> Result<(), Stop>
     requires { IsLive bench.old.ctx (AnyNode.Operation (O.pointer op.now)) }
 {
-    let alloc = bench.alloc;
-    let mut sizes = Vec::new(alloc);
     let (_, words) = split_word(line.text);
-    for word in words.split_whitespace() {
-        let Ok(size) = word.parse::<u32>() else {
-            return Err(Stop::Refused);
-        };
-        sizes.push(size)?;
-    }
-    op.set_operand_segment_sizes(alloc, &mut bench.ctx, OperandSegmentSizesAttr(sizes))?;
+    let sizes = sizes_of(bench.alloc, words)?;
+    op.set_operand_segment_sizes(bench.alloc, &mut bench.ctx, sizes)?;
     Ok(())
 }
 

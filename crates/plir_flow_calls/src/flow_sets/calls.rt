@@ -5,11 +5,11 @@ ghost use Rattle.plir_core.specs.declared.ptr.IRNode.{IRNode as AnyNode};
 use crate::flow_sets::asking::{ask_call, ask_edges, ask_forwarded, ask_returned, ask_sites};
 use crate::flow_sets::flow_call::{FlowCall, SetQuestion, StructCall};
 use crate::flow_sets::structs;
+use crate::sizes::sizes_of;
 use flow_dialect::cond_branch::CondBranch;
 use flow_dialect::kinds::FlowSet;
 use flow_dialect::named_call::NamedCall;
 use flow_dialect::scope::Scope;
-use plir_data::OperandSegmentSizesAttr;
 use plir_flow::OperandSegmentInterface;
 use plir_scripts::{Bench, Layer, Line, Mismatch, NodeCalls, Stop, play, split_word};
 use std::alloc::Global;
@@ -58,15 +58,9 @@ fn ask_struct(bench: &mut Bench<FlowSet>, call: StructCall, line: Line<'_>) -> R
 fn set_sizes(bench: &mut Bench<FlowSet>, branch: &CondBranch, line: Line<'_>) -> Result<(), Stop>
     requires { IsLive bench.old.ctx (AnyNode.Operation branch.now.op) }
 {
-    let mut sizes = Vec::new(bench.alloc);
     let (_, words) = split_word(line.text);
-    for word in words.split_whitespace() {
-        let Ok(size) = word.parse::<u32>() else {
-            return Err(Stop::Refused);
-        };
-        sizes.push(size)?;
-    }
-    branch.set_operand_segment_sizes(bench.alloc, &mut bench.ctx, OperandSegmentSizesAttr(sizes))?;
+    let sizes = sizes_of(bench.alloc, words)?;
+    branch.set_operand_segment_sizes(bench.alloc, &mut bench.ctx, sizes)?;
     Ok(())
 }
 

@@ -1,39 +1,36 @@
 //! The accessors of the interfaces, by their names.
 use plir_scripts::Stop;
 
-/// The accessors of two results or operands and of one: the last of two.
+/// The accessors of two results or operands and of one.
 #[derive(Clone, Copy)]
 pub enum CountedAccessor {
-    /// `OneResult.get_result`.
-    GetResult,
-    /// `OneOpd.get_operand`.
-    GetOperand,
-    /// `OneResult.result_type`.
+    /// Of the one.
+    One(CountedPart),
+    /// Of the last of two.
+    LastOfTwo(CountedPart),
+}
+
+/// What is asked of results or operands.
+#[derive(Clone, Copy)]
+pub enum CountedPart {
+    Result,
+    Operand,
     ResultType,
-    /// `OneOpd.operand_type`.
     OperandType,
-    /// `NResults<2>.get_result_i`.
-    GetResultI,
-    /// `NOpds<2>.get_operand_i`.
-    GetOperandI,
-    /// `NResults<2>.result_type_i`.
-    ResultTypeI,
-    /// `NOpds<2>.operand_type_i`.
-    OperandTypeI,
 }
 
 impl CountedAccessor {
     /// The accessor of a name.
     pub fn of(name: &str) -> Result<Self, Stop> {
         match name {
-            "OneResult.get_result" => Ok(CountedAccessor::GetResult),
-            "OneOpd.get_operand" => Ok(CountedAccessor::GetOperand),
-            "OneResult.result_type" => Ok(CountedAccessor::ResultType),
-            "OneOpd.operand_type" => Ok(CountedAccessor::OperandType),
-            "NResults<2>.get_result_i" => Ok(CountedAccessor::GetResultI),
-            "NOpds<2>.get_operand_i" => Ok(CountedAccessor::GetOperandI),
-            "NResults<2>.result_type_i" => Ok(CountedAccessor::ResultTypeI),
-            "NOpds<2>.operand_type_i" => Ok(CountedAccessor::OperandTypeI),
+            "OneResult.get_result" => Ok(CountedAccessor::One(CountedPart::Result)),
+            "OneOpd.get_operand" => Ok(CountedAccessor::One(CountedPart::Operand)),
+            "OneResult.result_type" => Ok(CountedAccessor::One(CountedPart::ResultType)),
+            "OneOpd.operand_type" => Ok(CountedAccessor::One(CountedPart::OperandType)),
+            "NResults<2>.get_result_i" => Ok(CountedAccessor::LastOfTwo(CountedPart::Result)),
+            "NOpds<2>.get_operand_i" => Ok(CountedAccessor::LastOfTwo(CountedPart::Operand)),
+            "NResults<2>.result_type_i" => Ok(CountedAccessor::LastOfTwo(CountedPart::ResultType)),
+            "NOpds<2>.operand_type_i" => Ok(CountedAccessor::LastOfTwo(CountedPart::OperandType)),
             _ => Err(Stop::Refused),
         }
     }
@@ -77,10 +74,8 @@ pub enum FreeAccessor {
     CommonType,
     /// `AtMostOneRegion.get_region`.
     GetRegion,
-    /// `has_ssa_dominance(0)`.
-    FirstHasSSADominance,
-    /// `has_ssa_dominance(1)`.
-    SecondHasSSADominance,
+    /// `has_ssa_dominance(0)` or `has_ssa_dominance(1)`.
+    HasSSADominance(usize),
     /// `verify_get_operand_n<2>`.
     VerifyGetOperandN,
     /// `verify_get_result_n<0>`.
@@ -97,8 +92,8 @@ impl FreeAccessor {
             "common_result_type" => Ok(FreeAccessor::CommonResultType),
             "common_type" => Ok(FreeAccessor::CommonType),
             "AtMostOneRegion.get_region" => Ok(FreeAccessor::GetRegion),
-            "has_ssa_dominance(0)" => Ok(FreeAccessor::FirstHasSSADominance),
-            "has_ssa_dominance(1)" => Ok(FreeAccessor::SecondHasSSADominance),
+            "has_ssa_dominance(0)" => Ok(FreeAccessor::HasSSADominance(0)),
+            "has_ssa_dominance(1)" => Ok(FreeAccessor::HasSSADominance(1)),
             "verify_get_operand_n<2>" => Ok(FreeAccessor::VerifyGetOperandN),
             "verify_get_result_n<0>" => Ok(FreeAccessor::VerifyGetResultN),
             _ => Err(Stop::Refused),

@@ -2,8 +2,8 @@
 ghost use Rattle.plir_core.specs.ContextView.{IsLive};
 ghost use Rattle.plir_core.specs.declared.ptr.IRNode.{IRNode as AnyNode};
 
-use crate::iface::accessors::{CountedAccessor, FreeAccessor, RegionAccessor};
-use plir_core::{Context, LessThanN, Value};
+use crate::iface::accessors::{CountedAccessor, CountedPart, FreeAccessor, RegionAccessor};
+use plir_core::{BasicBlock, Context, LessThanN, Ptr, Region, Value};
 use plir_data::{OpSet, TypeHandle};
 use plir_iface::{
     AtMostOneRegionInterface, NOpdsInterface, NRegionsInterface, NResultsInterface,
@@ -12,6 +12,7 @@ use plir_iface::{
     SameResultsType, SingleBlockRegionInterface, verify_get_operand_n, verify_get_result_n,
 };
 use plir_scripts::{Answer, Made, Stop};
+use std::fmt::Display;
 
 // Writes the name of a type, or `-` for none.
 fn put_type(made: &Made, answer: &mut Answer, handle: Option<TypeHandle>) {
@@ -36,104 +37,129 @@ fn put_value(made: &Made, answer: &mut Answer, value: Option<Value>) {
     }
 }
 
-/// The accessors of two results or operands and of one: the last of two.
-pub fn ask_counted<
-    D: OpSet,
-    O: NResultsInterface<D, 2> + NOpdsInterface<D, 2> + OneResultInterface<D> + OneOpdInterface<D>,
->(
-    ctx: &Context<D>,
-    made: &Made,
-    answer: &mut Answer,
-    op: &O,
-    accessor: CountedAccessor,
-) -> Result<(), Stop>
-    requires { IsLive ctx.now (AnyNode.Operation (O.pointer op.now)) }
-{
-    let last: LessThanN<2> = LessThanN::new(1).ok_or(Stop::Refused)?;
-    match accessor {
-        CountedAccessor::GetResult if OneResultInterface::<D>::verify(op, ctx).is_ok() => {
-            made.put_value(answer, OneResultInterface::<D>::get_result(op, ctx))
-        }
-        CountedAccessor::GetOperand if OneOpdInterface::<D>::verify(op, ctx).is_ok() => {
-            made.put_value(answer, OneOpdInterface::<D>::get_operand(op, ctx))
-        }
-        CountedAccessor::ResultType if OneResultInterface::<D>::verify(op, ctx).is_ok() => {
-            put_type(
-                made,
-                answer,
-                Some(OneResultInterface::<D>::result_type(op, ctx)),
-            )
-        }
-        CountedAccessor::OperandType if OneOpdInterface::<D>::verify(op, ctx).is_ok() => {
-            put_type(
-                made,
-                answer,
-                Some(OneOpdInterface::<D>::operand_type(op, ctx)),
-            )
-        }
-        CountedAccessor::GetResultI if NResultsInterface::<D, 2>::verify(op, ctx).is_ok() => {
-            made.put_value(
-                answer,
-                NResultsInterface::<D, 2>::get_result_i(op, ctx, last),
-            )
-        }
-        CountedAccessor::GetOperandI if NOpdsInterface::<D, 2>::verify(op, ctx).is_ok() => {
-            made.put_value(answer, NOpdsInterface::<D, 2>::get_operand_i(op, ctx, last))
-        }
-        CountedAccessor::ResultTypeI if NResultsInterface::<D, 2>::verify(op, ctx).is_ok() => {
-            put_type(
-                made,
-                answer,
-                Some(NResultsInterface::<D, 2>::result_type_i(op, ctx, last)),
-            )
-        }
-        CountedAccessor::OperandTypeI if NOpdsInterface::<D, 2>::verify(op, ctx).is_ok() => {
-            put_type(
-                made,
-                answer,
-                Some(NOpdsInterface::<D, 2>::operand_type_i(op, ctx, last)),
-            )
-        }
-        _ => return Err(Stop::Refused),
+// Writes the name of a value, or the text of the refusal.
+fn put_verified<E: Display + Drop>(made: &Made, answer: &mut Answer, found: Result<Value, E>) {
+    match found {
+        Ok(value) => made.put_value(answer, value),
+        Err(refusal) => answer.put_shown(&refusal),
+    }
+}
+
+/// What an accessor finds.
+#[derive(Clone, Copy)]
+pub enum Found {
+    Value(Value),
+    Type(TypeHandle),
+    Region(Ptr<Region>),
+    Block(Ptr<BasicBlock>),
+}
+
+/// Writes what is found; refused where nothing is.
+pub fn put_found(made: &Made, answer: &mut Answer, found: Option<Found>) -> Result<(), Stop> {
+    match found {
+        None => return Err(Stop::Refused),
+        Some(Found::Value(value)) => made.put_value(answer, value),
+        Some(Found::Type(handle)) => put_type(made, answer, Some(handle)),
+        Some(Found::Region(region)) => made.put_region(answer, Some(region)),
+        Some(Found::Block(block)) => made.put_block(answer, Some(block)),
     }
     Ok(())
 }
 
-/// The accessors of regions.
-pub fn ask_regions<
+/// What an accessor of results and operands finds.
+pub fn find_counted<
     D: OpSet,
-    O: OneRegionInterface<D> + NRegionsInterface<D, 2> + SingleBlockRegionInterface<D>,
->(
-    ctx: &Context<D>,
-    made: &Made,
-    answer: &mut Answer,
-    op: &O,
-    accessor: RegionAccessor,
-) -> Result<(), Stop>
+    O: NResultsInterface<D, 2> + NOpdsInterface<D, 2> + OneResultInterface<D> + OneOpdInterface<D>,
+>(ctx: &Context<D>, op: &O, accessor: CountedAccessor) -> Option<Found>
     requires { IsLive ctx.now (AnyNode.Operation (O.pointer op.now)) }
 {
-    let last: LessThanN<2> = LessThanN::new(1).ok_or(Stop::Refused)?;
-    let region = match accessor {
+    match accessor {
+        CountedAccessor::One(asked) => find_one(ctx, op, asked),
+        CountedAccessor::LastOfTwo(asked) => find_last(ctx, op, asked),
+    }
+}
+
+// What is asked of the one result or operand, if there is one.
+fn find_one<D: OpSet, O: OneResultInterface<D> + OneOpdInterface<D>>(
+    ctx: &Context<D>,
+    op: &O,
+    asked: CountedPart,
+) -> Option<Found>
+    requires { IsLive ctx.now (AnyNode.Operation (O.pointer op.now)) }
+{
+    match asked {
+        CountedPart::Result if OneResultInterface::<D>::verify(op, ctx).is_ok() => {
+            Some(Found::Value(OneResultInterface::<D>::get_result(op, ctx)))
+        }
+        CountedPart::Operand if OneOpdInterface::<D>::verify(op, ctx).is_ok() => {
+            Some(Found::Value(OneOpdInterface::<D>::get_operand(op, ctx)))
+        }
+        CountedPart::ResultType if OneResultInterface::<D>::verify(op, ctx).is_ok() => {
+            Some(Found::Type(OneResultInterface::<D>::result_type(op, ctx)))
+        }
+        CountedPart::OperandType if OneOpdInterface::<D>::verify(op, ctx).is_ok() => {
+            Some(Found::Type(OneOpdInterface::<D>::operand_type(op, ctx)))
+        }
+        _ => None,
+    }
+}
+
+// What is asked of the last of two results or operands, if there are two.
+fn find_last<D: OpSet, O: NResultsInterface<D, 2> + NOpdsInterface<D, 2>>(
+    ctx: &Context<D>,
+    op: &O,
+    asked: CountedPart,
+) -> Option<Found>
+    requires { IsLive ctx.now (AnyNode.Operation (O.pointer op.now)) }
+{
+    let last: LessThanN<2> = LessThanN::new(1)?;
+    match asked {
+        CountedPart::Result if NResultsInterface::<D, 2>::verify(op, ctx).is_ok() => Some(
+            Found::Value(NResultsInterface::<D, 2>::get_result_i(op, ctx, last)),
+        ),
+        CountedPart::Operand if NOpdsInterface::<D, 2>::verify(op, ctx).is_ok() => Some(
+            Found::Value(NOpdsInterface::<D, 2>::get_operand_i(op, ctx, last)),
+        ),
+        CountedPart::ResultType if NResultsInterface::<D, 2>::verify(op, ctx).is_ok() => Some(
+            Found::Type(NResultsInterface::<D, 2>::result_type_i(op, ctx, last)),
+        ),
+        CountedPart::OperandType if NOpdsInterface::<D, 2>::verify(op, ctx).is_ok() => Some(
+            Found::Type(NOpdsInterface::<D, 2>::operand_type_i(op, ctx, last)),
+        ),
+        _ => None,
+    }
+}
+
+/// What an accessor of regions finds: the one, the last of two, or the block of the one.
+pub fn find_region<
+    D: OpSet,
+    O: OneRegionInterface<D> + NRegionsInterface<D, 2> + SingleBlockRegionInterface<D>,
+>(ctx: &Context<D>, op: &O, accessor: RegionAccessor) -> Option<Found>
+    requires { IsLive ctx.now (AnyNode.Operation (O.pointer op.now)) }
+{
+    let last: LessThanN<2> = LessThanN::new(1)?;
+    match accessor {
         RegionAccessor::OneRegion if OneRegionInterface::<D>::verify(op, ctx).is_ok() => {
-            OneRegionInterface::<D>::get_region(op, ctx)
+            Some(Found::Region(OneRegionInterface::<D>::get_region(op, ctx)))
         }
         RegionAccessor::NRegions if NRegionsInterface::<D, 2>::verify(op, ctx).is_ok() => {
-            NRegionsInterface::<D, 2>::get_region_i(op, ctx, last)
+            Some(Found::Region(NRegionsInterface::<D, 2>::get_region_i(op, ctx, last)))
         }
-        RegionAccessor::SingleBlockRegion => {
-            if SingleBlockRegionInterface::<D>::verify(op, ctx).is_err()
-                || op.get_operation().num_regions(ctx) == 0
-            {
-                return Err(Stop::Refused);
-            }
-            let body = SingleBlockRegionInterface::<D>::get_body(op, ctx, 0);
-            made.put_block(answer, Some(body));
-            return Ok(());
-        }
-        _ => return Err(Stop::Refused),
-    };
-    made.put_region(answer, Some(region));
-    Ok(())
+        RegionAccessor::SingleBlockRegion => find_body(ctx, op),
+        _ => None,
+    }
+}
+
+// The one block of the first region.
+fn find_body<D: OpSet, O: SingleBlockRegionInterface<D>>(ctx: &Context<D>, op: &O) -> Option<Found>
+    requires { IsLive ctx.now (AnyNode.Operation (O.pointer op.now)) }
+{
+    if SingleBlockRegionInterface::<D>::verify(op, ctx).is_err()
+        || op.get_operation().num_regions(ctx) == 0
+    {
+        return None;
+    }
+    Some(Found::Block(SingleBlockRegionInterface::<D>::get_body(op, ctx, 0)))
 }
 
 /// The accessors that have no condition.
@@ -157,25 +183,18 @@ pub fn ask_freely<
             answer,
             AtMostOneRegionInterface::<D>::get_region(op, ctx),
         ),
-        FreeAccessor::FirstHasSSADominance => answer.put_truth(RegionKindInterface::<
+        FreeAccessor::HasSSADominance(place) => answer.put_truth(RegionKindInterface::<
             D,
-        >::has_ssa_dominance(op, 0)),
-        FreeAccessor::SecondHasSSADominance => answer.put_truth(RegionKindInterface::<
-            D,
-        >::has_ssa_dominance(op, 1)),
-        FreeAccessor::VerifyGetOperandN => match verify_get_operand_n::<D, 2>(
-            op.get_operation(),
-            ctx,
-        ) {
-            Ok(value) => made.put_value(answer, value),
-            Err(refusal) => answer.put_shown(&refusal),
-        },
-        FreeAccessor::VerifyGetResultN => match verify_get_result_n::<D, 0>(
-            op.get_operation(),
-            ctx,
-        ) {
-            Ok(value) => made.put_value(answer, value),
-            Err(refusal) => answer.put_shown(&refusal),
-        },
+        >::has_ssa_dominance(op, place)),
+        FreeAccessor::VerifyGetOperandN => put_verified(
+            made,
+            answer,
+            verify_get_operand_n::<D, 2>(op.get_operation(), ctx),
+        ),
+        FreeAccessor::VerifyGetResultN => put_verified(
+            made,
+            answer,
+            verify_get_result_n::<D, 0>(op.get_operation(), ctx),
+        ),
     }
 }

@@ -5,7 +5,7 @@ ghost use Rattle.plir_core.specs.declared.ptr.IRNode.{IRNode as AnyNode};
 use crate::iface::accessors::{CountedAccessor, FreeAccessor, RegionAccessor};
 use crate::iface::any_op::AnyOp;
 use crate::iface::appending::append;
-use crate::iface::asking::{ask_counted, ask_freely, ask_regions};
+use crate::iface::asking::{ask_freely, find_counted, find_region, put_found};
 use crate::iface::rules::{CountRule, PlaceRule, TypeRule};
 use crate::iface::verifying::{
     verify_marks, verify_operands, verify_places, verify_regions, verify_results, verify_types,
@@ -124,8 +124,14 @@ fn ask<D: OpSet>(bench: &mut Bench<D>, accessors: Accessors, line: Line<'_>) -> 
     let (ctx, made, answer) = (&bench.ctx, &bench.made, &mut bench.answer);
     let (op, name) = (AnyOp { op }, name_in(line));
     match accessors {
-        Accessors::Counted => ask_counted(ctx, made, answer, &op, CountedAccessor::of(name)?),
-        Accessors::OfRegions => ask_regions(ctx, made, answer, &op, RegionAccessor::of(name)?),
+        Accessors::Counted => {
+            let accessor = CountedAccessor::of(name)?;
+            put_found(made, answer, find_counted(ctx, &op, accessor))
+        }
+        Accessors::OfRegions => {
+            let accessor = RegionAccessor::of(name)?;
+            put_found(made, answer, find_region(ctx, &op, accessor))
+        }
         Accessors::Free => {
             ask_freely(ctx, made, answer, &op, FreeAccessor::of(name)?);
             Ok(())

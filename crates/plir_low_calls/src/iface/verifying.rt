@@ -4,7 +4,7 @@ ghost use Rattle.plir_core.specs.declared.ptr.IRNode.{IRNode as AnyNode};
 
 use crate::iface::rules::{MarkRule, OperandRule, PlaceRule, RegionRule, ResultRule, TypeRule};
 use plir_core::Context;
-use plir_data::{FunctionTypeMark, IntegerType, Memory, OpSet, UnitType, VerifyErr};
+use plir_data::{FunctionTypeMark, IntegerType, Memory, OpSet, UnitType};
 use plir_iface::{
     AllOperandsImplsTy, AllOperandsOfType, AllResultsImplsTy, AllResultsOfType,
     AtLeastNOpdsInterface, AtLeastNResultsInterface, AtMostNOpdsInterface, AtMostNRegionsInterface,
@@ -16,18 +16,8 @@ use plir_iface::{
     ResultsMNOfType, SameOperandsAndResultType, SameOperandsType, SameResultsType,
     SingleBlockRegionInterface,
 };
-use plir_scripts::{Answer, Stop};
+use plir_scripts::Answer;
 use std::alloc::Global;
-use std::fmt::Display;
-
-// Writes `ok`, or the text of the refusal.
-fn put_verdict<E: Display + Drop>(answer: &mut Answer, verdict: Result<(), VerifyErr<E>>) {
-    match verdict {
-        Ok(()) => answer.put("ok"),
-        Err(VerifyErr::Refused { err, .. }) => answer.put_shown(&err),
-        Err(VerifyErr::Memory) => answer.note_lost(),
-    }
-}
 
 // Writes `ok` for an interface without a rule.
 fn put_free(answer: &mut Answer, verdict: Result<(), Memory>) {
@@ -49,20 +39,17 @@ pub fn verify_results<
     requires { IsLive ctx.now (AnyNode.Operation (O.pointer op.now)) }
 {
     match rule {
-        ResultRule::NResults => put_verdict(answer, NResultsInterface::<D, 2>::verify(op, ctx)),
-        ResultRule::OneResult => put_verdict(answer, OneResultInterface::<D>::verify(op, ctx)),
-        ResultRule::AtMostNResults => put_verdict(
-            answer,
-            AtMostNResultsInterface::<D, 2>::verify(op, ctx),
-        ),
-        ResultRule::OptionalResult => put_verdict(
-            answer,
-            OptionalResultInterface::<D>::verify(op, ctx),
-        ),
-        ResultRule::AtLeastNResults => put_verdict(
-            answer,
-            AtLeastNResultsInterface::<D, 2>::verify(op, ctx),
-        ),
+        ResultRule::NResults => answer.put_verdict(NResultsInterface::<D, 2>::verify(op, ctx)),
+        ResultRule::OneResult => answer.put_verdict(OneResultInterface::<D>::verify(op, ctx)),
+        ResultRule::AtMostNResults => answer.put_verdict(AtMostNResultsInterface::<D, 2>::verify(
+            op, ctx,
+        )),
+        ResultRule::OptionalResult => answer.put_verdict(OptionalResultInterface::<D>::verify(
+            op, ctx,
+        )),
+        ResultRule::AtLeastNResults => answer.put_verdict(AtLeastNResultsInterface::<D, 2>::verify(
+            op, ctx,
+        )),
     }
 }
 
@@ -78,17 +65,15 @@ pub fn verify_operands<
     requires { IsLive ctx.now (AnyNode.Operation (O.pointer op.now)) }
 {
     match rule {
-        OperandRule::NOpds => put_verdict(answer, NOpdsInterface::<D, 2>::verify(op, ctx)),
-        OperandRule::OneOpd => put_verdict(answer, OneOpdInterface::<D>::verify(op, ctx)),
-        OperandRule::AtMostNOpds => put_verdict(
-            answer,
-            AtMostNOpdsInterface::<D, 2>::verify(op, ctx),
-        ),
-        OperandRule::OptionalOpd => put_verdict(answer, OptionalOpdInterface::<D>::verify(op, ctx)),
-        OperandRule::AtLeastNOpds => put_verdict(
-            answer,
-            AtLeastNOpdsInterface::<D, 2>::verify(op, ctx),
-        ),
+        OperandRule::NOpds => answer.put_verdict(NOpdsInterface::<D, 2>::verify(op, ctx)),
+        OperandRule::OneOpd => answer.put_verdict(OneOpdInterface::<D>::verify(op, ctx)),
+        OperandRule::AtMostNOpds => answer.put_verdict(AtMostNOpdsInterface::<D, 2>::verify(
+            op, ctx,
+        )),
+        OperandRule::OptionalOpd => answer.put_verdict(OptionalOpdInterface::<D>::verify(op, ctx)),
+        OperandRule::AtLeastNOpds => answer.put_verdict(AtLeastNOpdsInterface::<D, 2>::verify(
+            op, ctx,
+        )),
     }
 }
 
@@ -103,16 +88,14 @@ pub fn verify_regions<
     requires { IsLive ctx.now (AnyNode.Operation (O.pointer op.now)) }
 {
     match rule {
-        RegionRule::NRegions => put_verdict(answer, NRegionsInterface::<D, 2>::verify(op, ctx)),
-        RegionRule::OneRegion => put_verdict(answer, OneRegionInterface::<D>::verify(op, ctx)),
-        RegionRule::AtMostNRegions => put_verdict(
-            answer,
-            AtMostNRegionsInterface::<D, 1>::verify(op, ctx),
-        ),
-        RegionRule::SingleBlockRegion => put_verdict(
-            answer,
-            SingleBlockRegionInterface::<D>::verify(op, ctx),
-        ),
+        RegionRule::NRegions => answer.put_verdict(NRegionsInterface::<D, 2>::verify(op, ctx)),
+        RegionRule::OneRegion => answer.put_verdict(OneRegionInterface::<D>::verify(op, ctx)),
+        RegionRule::AtMostNRegions => answer.put_verdict(AtMostNRegionsInterface::<D, 1>::verify(
+            op, ctx,
+        )),
+        RegionRule::SingleBlockRegion => answer.put_verdict(SingleBlockRegionInterface::<D>::verify(
+            op, ctx,
+        )),
     }
 }
 
@@ -154,28 +137,25 @@ pub fn verify_types<
     requires { IsLive ctx.now (AnyNode.Operation (O.pointer op.now)) }
 {
     match rule {
-        TypeRule::SameOperandsType => put_verdict(answer, SameOperandsType::<D>::verify(op, ctx)),
-        TypeRule::SameResultsType => put_verdict(answer, SameResultsType::<D>::verify(op, ctx)),
-        TypeRule::SameOperandsAndResultType => put_verdict(
-            answer,
-            SameOperandsAndResultType::<D>::verify(op, ctx),
-        ),
-        TypeRule::AllOperandsOfType => put_verdict(
-            answer,
-            AllOperandsOfType::<D, UnitType>::verify(op, alloc, ctx),
-        ),
-        TypeRule::AllResultsOfType => put_verdict(
-            answer,
-            AllResultsOfType::<D, UnitType>::verify(op, alloc, ctx),
-        ),
-        TypeRule::AllOperandsImplsTy => put_verdict(
-            answer,
-            AllOperandsImplsTy::<D, FunctionTypeMark>::verify(op, ctx),
-        ),
-        TypeRule::AllResultsImplsTy => put_verdict(
-            answer,
-            AllResultsImplsTy::<D, FunctionTypeMark>::verify(op, ctx),
-        ),
+        TypeRule::SameOperandsType => answer.put_verdict(SameOperandsType::<D>::verify(op, ctx)),
+        TypeRule::SameResultsType => answer.put_verdict(SameResultsType::<D>::verify(op, ctx)),
+        TypeRule::SameOperandsAndResultType => answer.put_verdict(SameOperandsAndResultType::<
+            D,
+        >::verify(op, ctx)),
+        TypeRule::AllOperandsOfType => answer.put_verdict(AllOperandsOfType::<D, UnitType>::verify(
+            op, alloc, ctx,
+        )),
+        TypeRule::AllResultsOfType => answer.put_verdict(AllResultsOfType::<D, UnitType>::verify(
+            op, alloc, ctx,
+        )),
+        TypeRule::AllOperandsImplsTy => answer.put_verdict(AllOperandsImplsTy::<
+            D,
+            FunctionTypeMark,
+        >::verify(op, ctx)),
+        TypeRule::AllResultsImplsTy => answer.put_verdict(AllResultsImplsTy::<
+            D,
+            FunctionTypeMark,
+        >::verify(op, ctx)),
     }
 }
 
@@ -195,41 +175,53 @@ pub fn verify_places<
     requires { IsLive ctx.now (AnyNode.Operation (O.pointer op.now)) }
 {
     match rule {
-        PlaceRule::FirstOperandOfType => put_verdict(
-            answer,
-            OperandNOfType::<D, 0, UnitType>::verify(op, ctx),
-        ),
-        PlaceRule::FirstResultOfType => put_verdict(
-            answer,
-            ResultNOfType::<D, 0, UnitType>::verify(op, ctx),
-        ),
-        PlaceRule::SecondOperandImplsTy => put_verdict(
-            answer,
-            OperandNImplsTy::<D, 1, FunctionTypeMark>::verify(op, ctx),
-        ),
-        PlaceRule::SecondResultImplsTy => put_verdict(
-            answer,
-            ResultNImplsTy::<D, 1, FunctionTypeMark>::verify(op, ctx),
-        ),
-        PlaceRule::LaterOperandsOfType => put_verdict(
-            answer,
-            OperandsMNOfType::<D, 1, 4294967295, IntegerType>::verify(op, ctx),
-        ),
-        PlaceRule::FrontOperandsOfType => put_verdict(
-            answer,
-            OperandsMNOfType::<D, 0, 2, IntegerType>::verify(op, ctx),
-        ),
-        PlaceRule::FrontResultsOfType => put_verdict(
-            answer,
-            ResultsMNOfType::<D, 0, 2, IntegerType>::verify(op, ctx),
-        ),
-        PlaceRule::FrontOperandsImplTy => put_verdict(
-            answer,
-            OperandsMNImplsTy::<D, 0, 1, FunctionTypeMark>::verify(op, ctx),
-        ),
-        PlaceRule::AllResultsImplTy => put_verdict(
-            answer,
-            ResultsMNImplsTy::<D, 0, 4294967295, FunctionTypeMark>::verify(op, ctx),
-        ),
+        PlaceRule::FirstOperandOfType => answer.put_verdict(OperandNOfType::<
+            D,
+            0,
+            UnitType,
+        >::verify(op, ctx)),
+        PlaceRule::FirstResultOfType => answer.put_verdict(ResultNOfType::<D, 0, UnitType>::verify(
+            op, ctx,
+        )),
+        PlaceRule::SecondOperandImplsTy => answer.put_verdict(OperandNImplsTy::<
+            D,
+            1,
+            FunctionTypeMark,
+        >::verify(op, ctx)),
+        PlaceRule::SecondResultImplsTy => answer.put_verdict(ResultNImplsTy::<
+            D,
+            1,
+            FunctionTypeMark,
+        >::verify(op, ctx)),
+        PlaceRule::LaterOperandsOfType => answer.put_verdict(OperandsMNOfType::<
+            D,
+            1,
+            4294967295,
+            IntegerType,
+        >::verify(op, ctx)),
+        PlaceRule::FrontOperandsOfType => answer.put_verdict(OperandsMNOfType::<
+            D,
+            0,
+            2,
+            IntegerType,
+        >::verify(op, ctx)),
+        PlaceRule::FrontResultsOfType => answer.put_verdict(ResultsMNOfType::<
+            D,
+            0,
+            2,
+            IntegerType,
+        >::verify(op, ctx)),
+        PlaceRule::FrontOperandsImplTy => answer.put_verdict(OperandsMNImplsTy::<
+            D,
+            0,
+            1,
+            FunctionTypeMark,
+        >::verify(op, ctx)),
+        PlaceRule::AllResultsImplTy => answer.put_verdict(ResultsMNImplsTy::<
+            D,
+            0,
+            4294967295,
+            FunctionTypeMark,
+        >::verify(op, ctx)),
     }
 }

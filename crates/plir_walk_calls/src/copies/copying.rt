@@ -3,7 +3,7 @@ ghost use Rattle.plir_core.specs.ContextView.{IsLive};
 ghost use Rattle.plir_core.specs.declared.ptr.IRNode.{IRNode as AnyNode};
 ghost use Rattle.plir_copies.specs.Images.{AreImagesLive, images};
 
-use crate::new_names::name_all;
+use crate::new_names::{name_all, reserve_names};
 use plir_copies::{
     ValueMap, clone_block_into, clone_block_tree_into, clone_op_into, clone_tree_into,
 };
@@ -73,9 +73,7 @@ pub fn clone_tree<D: OpSet>(bench: &mut Bench<D>, line: Line<'_>) -> Result<(), 
         return Err(Stop::Refused);
     }
     let room = bench.ctx.num_live() as usize;
-    bench.made.ops.reserve(room)?;
-    bench.made.regions.reserve(room)?;
-    bench.made.blocks.reserve(room)?;
+    reserve_names(&mut bench.made, room)?;
     let copy = match node {
         IRNode::Operation(op) => IRNode::Operation(clone_tree_into(
             bench.alloc,

@@ -20,7 +20,10 @@ pub fn name<D: OpSet>(bench: &mut Bench<D>, naming: Naming, line: Line<'_>) -> R
     match naming {
         Naming::Show => put_names(bench, line),
         Naming::Erase => erase_names(bench, line),
-        Naming::Edit(edit) => put_edit(&mut bench.answer, edit_names(bench, edit, line)?),
+        Naming::Edit(edit) => {
+            let edited = edit_names(bench, edit, line)?;
+            put_edit(&mut bench.answer, edited)
+        }
     }
 }
 

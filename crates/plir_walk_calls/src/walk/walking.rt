@@ -60,12 +60,8 @@ pub fn walk<D: OpSet>(bench: &mut Bench<D>, walking: Walking, line: Line<'_>) ->
 /// A setting: `pre-fwd` and its kin, or three of them for the regions of operations, the operations of blocks and the
 /// blocks of regions, parted by `/`.
 pub fn config_of(word: &str) -> Result<WalkConfig, Stop> {
-    match word {
-        "pre-fwd" => return Ok(WALKCONFIG_PREORDER_FORWARD),
-        "post-fwd" => return Ok(WALKCONFIG_POSTORDER_FORWARD),
-        "pre-rev" => return Ok(WALKCONFIG_PREORDER_REVERSE),
-        "post-rev" => return Ok(WALKCONFIG_POSTORDER_REVERSE),
-        _ => {}
+    if let Ok(pair) = pair_of(word) {
+        return Ok(plain_config(pair));
     }
     let (regions, rest) = word.split_once('/').ok_or(Stop::Refused)?;
     let (ops, blocks) = rest.split_once('/').ok_or(Stop::Refused)?;
@@ -74,6 +70,16 @@ pub fn config_of(word: &str) -> Result<WalkConfig, Stop> {
         ops_in_block: pair_of(ops)?,
         blocks_in_region: pair_of(blocks)?,
     })
+}
+
+// The setting with one pair for all.
+fn plain_config(pair: (Order, Direction)) -> WalkConfig {
+    match pair {
+        (Order::PreOrder, Direction::Forward) => WALKCONFIG_PREORDER_FORWARD,
+        (Order::PostOrder, Direction::Forward) => WALKCONFIG_POSTORDER_FORWARD,
+        (Order::PreOrder, Direction::Reverse) => WALKCONFIG_PREORDER_REVERSE,
+        (Order::PostOrder, Direction::Reverse) => WALKCONFIG_POSTORDER_REVERSE,
+    }
 }
 
 fn pair_of(word: &str) -> Result<(Order, Direction), Stop> {
@@ -93,9 +99,9 @@ pub fn walk_plainly<D: OpSet>(
     walking: PlainWalking,
     line: Line<'_>,
 ) -> Result<(), Stop> {
+    let mut called = bench.take_list()?;
     let config = config_of(line.first)?;
     let root = bench.made.op(&bench.ctx, line.second)?;
-    let mut called = bench.take_list()?;
     let found = match walking {
         PlainWalking::Grow => grow(&mut bench.ctx, &config, root, &mut called),
         PlainWalking::Unlabel => unlabel(&mut bench.ctx, &config, root, &mut called),
