@@ -11,7 +11,7 @@ use Rattle.plir_core.specs.declared.ptr.IRNode.{IRNode}
 use Rattle.plir_core.specs.declared.ptr.IRNode.TheVariants.{Operation, Region, BasicBlock}
 use Rattle.plir_store.specs.Members.{Has, head}
 use Rattle.plir_core.specs.Nodes.{Nodes, ptr_at, op_node, region_node, block_node, is_node_live, node_children}
-use Rattle.plir_core.specs.Nodes.{node_parent, node_first, node_last, node_next, node_prev}
+use Rattle.plir_core.specs.Nodes.{node_over, node_parent, node_first, node_last, node_next, node_prev}
 use Rattle.plir_core.specs.Stored.{IsListing, IsStored}
 use Rattle.plir_core.specs.ContextView.{ContextView, IsLive, children, parent_of, first_child, last_child, next_sibling}
 use Rattle.plir_core.specs.ContextView.{prev_sibling}
@@ -22,7 +22,8 @@ use Rattle.plir_core.proofs.ChildAt.{child_at-is}
 use Rattle.plir_store.specs.MemberLaws.{map-Has, Has-at}
 
 -- what is said of each answer that there may be
-pub answered : {X : Type 0} (f : X → IRNode) (P : IRNode → Type 0) (r : Option X) (o : Option IRNode) → option_map f r ≡
+pub answered : {X : Type 0} (f : X → IRNode) (P : IRNode → Type 0) (r : Option X) (o : Option IRNode) → option_map f r
+    ≡
     o → ((x : IRNode) → o ≡ Some x → P x) → IfSome r (λ x. P (f x))
 answered f P None o e h = tt
 answered f P (Some x) o e h = h (f x) (sym e)
@@ -91,24 +92,37 @@ module _ {C P X Y : Type 0} (l : Lists) (t : Table C) (u : Table P) (w : IsListi
   beside_in false c x e = absurd (none-some x e)
 
 module _ {O B : Type 0} (s : Nodes O B) where
+  -- what is picked of the children of a node
+  abbrev picked_under : (List ℕ → Option ℕ) → IRNode → Option IRNode
+  picked_under pick (Operation p) = cond (is_node_live s (Operation p)) (option_map (region_node s)
+      (pick (children_at s.regions_in_op p.slot))) None
+  picked_under pick (Region p) = cond (is_node_live s (Region p)) (option_map (block_node s)
+      (pick (children_at s.blocks_in_region p.slot))) None
+  picked_under pick (BasicBlock p) = cond (is_node_live s (BasicBlock p)) (option_map (op_node s)
+      (pick (children_at s.ops_in_block p.slot))) None
+
+  pick-Has : (pick : List ℕ → Option ℕ) → ((xs : List ℕ) (i : ℕ) → pick xs ≡ Some i → Has xs i) → (a x : IRNode) →
+      picked_under pick a ≡ Some x → Has (node_children s a) x
+  pick-Has pick h (Operation p) x e = picked (region_node s) (is_node_live s (Operation p))
+      (children_at s.regions_in_op p.slot) (pick (children_at s.regions_in_op p.slot)) x
+      (h (children_at s.regions_in_op p.slot)) e
+  pick-Has pick h (Region p) x e = picked (block_node s) (is_node_live s (Region p))
+      (children_at s.blocks_in_region p.slot) (pick (children_at s.blocks_in_region p.slot)) x
+      (h (children_at s.blocks_in_region p.slot)) e
+  pick-Has pick h (BasicBlock p) x e = picked (op_node s) (is_node_live s (BasicBlock p))
+      (children_at s.ops_in_block p.slot) (pick (children_at s.ops_in_block p.slot)) x
+      (h (children_at s.ops_in_block p.slot)) e
+
   -- the first and the last child are children
   pub first-Has : (a x : IRNode) → node_first s a ≡ Some x → Has (node_children s a) x
-  first-Has (Operation p) x e = picked (region_node s) (is_node_live s (Operation p))
-      (children_at s.regions_in_op p.slot) (head (children_at s.regions_in_op p.slot)) x
-      (first_Has (children_at s.regions_in_op p.slot)) e
-  first-Has (Region p) x e = picked (block_node s) (is_node_live s (Region p)) (children_at s.blocks_in_region p.slot)
-      (head (children_at s.blocks_in_region p.slot)) x (first_Has (children_at s.blocks_in_region p.slot)) e
-  first-Has (BasicBlock p) x e = picked (op_node s) (is_node_live s (BasicBlock p)) (children_at s.ops_in_block p.slot)
-      (head (children_at s.ops_in_block p.slot)) x (first_Has (children_at s.ops_in_block p.slot)) e
+  first-Has (Operation p) x e = pick-Has head first_Has (Operation p) x e
+  first-Has (Region p) x e = pick-Has head first_Has (Region p) x e
+  first-Has (BasicBlock p) x e = pick-Has head first_Has (BasicBlock p) x e
 
   pub last-Has : (a x : IRNode) → node_last s a ≡ Some x → Has (node_children s a) x
-  last-Has (Operation p) x e = picked (region_node s) (is_node_live s (Operation p))
-      (children_at s.regions_in_op p.slot) (last_of (children_at s.regions_in_op p.slot)) x
-      (tail_Has (children_at s.regions_in_op p.slot)) e
-  last-Has (Region p) x e = picked (block_node s) (is_node_live s (Region p)) (children_at s.blocks_in_region p.slot)
-      (last_of (children_at s.blocks_in_region p.slot)) x (tail_Has (children_at s.blocks_in_region p.slot)) e
-  last-Has (BasicBlock p) x e = picked (op_node s) (is_node_live s (BasicBlock p)) (children_at s.ops_in_block p.slot)
-      (last_of (children_at s.ops_in_block p.slot)) x (tail_Has (children_at s.ops_in_block p.slot)) e
+  last-Has (Operation p) x e = pick-Has last_of tail_Has (Operation p) x e
+  last-Has (Region p) x e = pick-Has last_of tail_Has (Region p) x e
+  last-Has (BasicBlock p) x e = pick-Has last_of tail_Has (BasicBlock p) x e
 
 module _ {O B : Type 0} (s : Nodes O B) (w : IsStored s) where
   -- x stands in the same list as n
@@ -120,7 +134,11 @@ module _ {O B : Type 0} (s : Nodes O B) (w : IsStored s) where
   pub next-beside : (n x : IRNode) → node_next s n ≡ Some x → IsBeside n x
   next-beside (Operation p) x e = let r = beside_in s.ops_in_block s.ops s.blocks w.ops_listed Operation BasicBlock
       (next_under s.ops_in_block p.slot) refl (λ q i. next_Has (children_at s.ops_in_block q) p.slot i)
-      (is_node_live s (Operation p)) p.slot x e in record { above = BasicBlock r.above; parent = r.is; child = r.child }
+      (is_node_live s (Operation p)) p.slot x e in record {
+        above = BasicBlock r.above;
+        parent = r.is;
+        child = r.child;
+      }
   next-beside (Region p) x e = let r = beside_in s.regions_in_op s.regions s.ops w.regions_listed Region Operation
       (next_under s.regions_in_op p.slot) refl (λ q i. next_Has (children_at s.regions_in_op q) p.slot i)
       (is_node_live s (Region p)) p.slot x e in record { above = Operation r.above; parent = r.is; child = r.child }
@@ -133,7 +151,8 @@ module _ {O B : Type 0} (s : Nodes O B) (w : IsStored s) where
 
   pub prev-beside : (n x : IRNode) → node_prev s n ≡ Some x → IsBeside n x
   prev-beside (Operation p) x e = let r = beside_in s.ops_in_block s.ops s.blocks w.ops_listed Operation BasicBlock
-      (prev_under s.ops_in_block p.slot) refl (before_Has s.ops_in_block p.slot) (is_node_live s (Operation p)) p.slot x
+      (prev_under s.ops_in_block p.slot) refl (before_Has s.ops_in_block p.slot) (is_node_live s (Operation p)) p.slot
+      x
       e in record { above = BasicBlock r.above; parent = r.is; child = r.child }
   prev-beside (Region p) x e = let r = beside_in s.regions_in_op s.regions s.ops w.regions_listed Region Operation
       (prev_under s.regions_in_op p.slot) refl (before_Has s.regions_in_op p.slot) (is_node_live s (Region p)) p.slot x
@@ -176,44 +195,48 @@ module _ {O B : Type 0} (s : Nodes O B) (w : IsStored s) where
   over-live n x e = parent-live s w x n e
 
 -- What the links of a context answer, where t is its value and s is made of the fields.
-module _ {K A T X : Type 0} (own : A → List ℕ) (s t : ContextView K A T) (view : s ≡ t) (w : IsWellFormed own s)
-    (f : X → IRNode) (r : Option X) (n : IRNode) where
+module _ {K A T X : Type 0} {own : A → List ℕ} {s t : ContextView K A T} (view : s ≡ t) (w : IsWellFormed own s)
+    (f : X → IRNode) (r : Option X) where
   told : (P : ContextView K A T → IRNode → Type 0) → ((x : IRNode) → option_map f r ≡ Some x → P s x) → IfSome r
       (λ x. P t (f x))
   told P h = subst (λ z. IfSome r (λ x. P z (f x))) view (answered f (P s) r (option_map f r) refl h)
 
-  abbrev Stands : ContextView K A T → IRNode → Type 0
-  Stands z x = parent_of z x ≡ Some n
+  pub over_told : (n : IRNode) → option_map f r ≡ parent_of s n → IfSome r (λ x. IsLive t (f x))
+  over_told n e = told IsLive (λ x q. over-live s.nodes w.stored n x (sym e ∙ q))
 
-  abbrev SharesParent : ContextView K A T → IRNode → Type 0
-  SharesParent z x = parent_of z x ≡ parent_of z n
+  -- of a node of the same kind
+  pub next_told : (p : X) → option_map f r ≡ next_sibling s (f p) → IfSome r (λ x. IsLive t (f x))
+  next_told p e = told IsLive (λ x q. next-live s.nodes w.stored (f p) x (sym e ∙ q))
 
-  pub next_shares : option_map f r ≡ next_sibling s n → IfSome r (λ x. parent_of t (f x) ≡ parent_of t n)
-  next_shares e = told SharesParent (λ x q. next-shares s.nodes w.stored n x (sym e ∙ q))
+  pub prev_told : (p : X) → option_map f r ≡ prev_sibling s (f p) → IfSome r (λ x. IsLive t (f x))
+  prev_told p e = told IsLive (λ x q. prev-live s.nodes w.stored (f p) x (sym e ∙ q))
 
-  pub prev_shares : option_map f r ≡ prev_sibling s n → IfSome r (λ x. parent_of t (f x) ≡ parent_of t n)
-  prev_shares e = told SharesParent (λ x q. prev-shares s.nodes w.stored n x (sym e ∙ q))
+  pub next_shares : (p : X) → option_map f r ≡ next_sibling s (f p) → IfSome r
+      (λ x. parent_of t (f x) ≡ parent_of t (f p))
+  next_shares p e = told (λ z x. parent_of z x ≡ parent_of z (f p))
+      (λ x q. next-shares s.nodes w.stored (f p) x (sym e ∙ q))
 
-  pub over_told : option_map f r ≡ parent_of s n → IfSome r (λ x. IsLive t (f x))
-  over_told e = told IsLive (λ x q. over-live s.nodes w.stored n x (sym e ∙ q))
+  pub prev_shares : (p : X) → option_map f r ≡ prev_sibling s (f p) → IfSome r
+      (λ x. parent_of t (f x) ≡ parent_of t (f p))
+  prev_shares p e = told (λ z x. parent_of z x ≡ parent_of z (f p))
+      (λ x q. prev-shares s.nodes w.stored (f p) x (sym e ∙ q))
 
-  pub next_told : option_map f r ≡ next_sibling s n → IfSome r (λ x. IsLive t (f x))
-  next_told e = told IsLive (λ x q. next-live s.nodes w.stored n x (sym e ∙ q))
+  -- of a child
+  pub first_stands : (n : IRNode) → option_map f r ≡ first_child s n → IfSome r (λ x. parent_of t (f x) ≡ Some n)
+  first_stands n e = told (λ z x. parent_of z x ≡ Some n) (λ x q. first-here s.nodes w.stored n x (sym e ∙ q))
 
-  pub prev_told : option_map f r ≡ prev_sibling s n → IfSome r (λ x. IsLive t (f x))
-  prev_told e = told IsLive (λ x q. prev-live s.nodes w.stored n x (sym e ∙ q))
+  pub last_stands : (n : IRNode) → option_map f r ≡ last_child s n → IfSome r (λ x. parent_of t (f x) ≡ Some n)
+  last_stands n e = told (λ z x. parent_of z x ≡ Some n) (λ x q. last-here s.nodes w.stored n x (sym e ∙ q))
 
-  pub first_told : option_map f r ≡ first_child s n → IfSome r (λ x. IsLive t (f x))
-  first_told e = told IsLive (λ x q. first-live s.nodes w.stored n x (sym e ∙ q))
+-- what has a parent is live
+has_parent : (b : Bool) (o : Option IRNode) (n : IRNode) → cond b o None ≡ Some n → b ≡ true
+has_parent true o n e = refl
+has_parent false o n e = absurd (none-some n e)
 
-  pub last_told : option_map f r ≡ last_child s n → IfSome r (λ x. IsLive t (f x))
-  last_told e = told IsLive (λ x q. last-live s.nodes w.stored n x (sym e ∙ q))
-
-  pub first_stands : option_map f r ≡ first_child s n → IfSome r (λ x. parent_of t (f x) ≡ Some n)
-  first_stands e = told Stands (λ x q. first-here s.nodes w.stored n x (sym e ∙ q))
-
-  pub last_stands : option_map f r ≡ last_child s n → IfSome r (λ x. parent_of t (f x) ≡ Some n)
-  last_stands e = told Stands (λ x q. last-here s.nodes w.stored n x (sym e ∙ q))
+pub stands_live : {K A T X : Type 0} (t : ContextView K A T) (f : X → IRNode) (n : IRNode) (r : Option X) → IfSome r
+    (λ x. parent_of t (f x) ≡ Some n) → IfSome r (λ x. IsLive t (f x))
+stands_live t f n None h = tt
+stands_live t f n (Some x) h = has_parent (is_node_live t.nodes (f x)) (node_over t.nodes (f x)) n h
 
 -- the child at a place is live, and the word of the place is that child
 pub place_told : {K A T : Type 0} (own : A → List ℕ) (s t : ContextView K A T) → s ≡ t → IsWellFormed own s →

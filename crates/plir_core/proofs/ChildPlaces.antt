@@ -102,5 +102,10 @@ module _ {O B : Type 0} (s : Nodes O B) where
   first-head (Region p) = first_in (block_node s) (is_node_live s (Region p)) (children_at s.blocks_in_region p.slot)
   first-head (BasicBlock p) = first_in (op_node s) (is_node_live s (BasicBlock p)) (children_at s.ops_in_block p.slot)
 
+  -- the first child as a getter answers it
+  pub first_is : {X : Type 0} (a : IRNode) (f : X → IRNode) (r o : Option X) → option_map f r ≡ node_first s a → r ≡ o →
+      head (node_children s a) ≡ option_map f o
+  first_is a f r o e is = sym (first-head a) ∙ sym e ∙ ap (option_map f) is
+
   pub first-place : (a : IRNode) → node_first s a ≡ slice_get (node_children s a) 0
   first-place a = first-head a ∙ front (node_children s a)

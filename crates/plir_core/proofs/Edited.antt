@@ -24,6 +24,10 @@ use Rattle.plir_core.proofs.Changes.{IsStored-held_op, IsStored-held_block}
 use Rattle.plir_core.proofs.ReplacedUses.{All-replaced}
 use Rattle.plir_core.proofs.Holds.{op_replaced, block_replaced, op_content_keeps, value_kept}
 
+-- what a slot holds is u, where it is v and u is v
+pub held_as : {C : Type 0} {o : Option C} {u v : C} → o ≡ Some v → u ≡ v → o ≡ Some u
+held_as e f = rw f e
+
 -- lists with an element more, fewer or changed
 module _ {X : Type 0} (P : X → Type 0) (xs : List X) (i : ℕ) where
   All-insert : (x : X) → P x → All P xs → All P (insert xs i x)

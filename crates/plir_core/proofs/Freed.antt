@@ -150,19 +150,25 @@ module _ {C P X : Type 0} (l : Lists) (t : Table C) (u : Table P) (w : IsListing
     child_same : (i : ℕ) → child' i ≡ child i
     child_same i = ap as_node (ptr_without t p.slot i)
 
-    -- the children of the parent
-    pub children_here : (b : Bool) (j : ℕ) (xs ys : List IRNode) → cond b (map child (children_at l j)) [] ≡ xs ++
-        as_node p ∷ ys → cond b (map child' (children_at (without_child l p.slot) j)) [] ≡ xs ++ ys
-    children_here false j [] ys e = cc
-    children_here false j (x ∷ xs) ys e = cc
-    children_here true j xs ys e =
+    -- the children of the parent, once it has left its list
+    pub children_taken : (b : Bool) (j : ℕ) (xs ys : List IRNode) → cond b (map child (children_at l j)) [] ≡ xs ++
+        as_node p ∷ ys → cond b (map child (children_at (without_child l p.slot) j)) [] ≡ xs ++ ys
+    children_taken false j [] ys e = cc
+    children_taken false j (x ∷ xs) ys e = cc
+    children_taken true j xs ys e =
         let at : map child (children_at l j) ≡ xs ++ child p.slot ∷ ys = e ∙ ap
         (λ z. xs ++ as_node z ∷ ys) (sym (ptr_is t p live)) in
         let under : parent_at l p.slot ≡ Some j = w.agreed.owned j p.slot (among child one p.slot (children_at l j) xs
         ys at) in
-        map-same child' child child_same (children_at (without_child l p.slot) j)
-        ∙ ap (map child) (children_at-without_here l w.agreed p.slot j under)
-        ∙ map-without child one p.slot (children_at l j) xs ys (w.agreed.apart j) at
+        ap (map child) (children_at-without_here l w.agreed p.slot j under) ∙ map-without child one p.slot
+        (children_at l j) xs ys (w.agreed.apart j) at
+
+    -- and once its slot is free
+    pub children_here : (b : Bool) (j : ℕ) (xs ys : List IRNode) → cond b (map child (children_at l j)) [] ≡ xs ++
+        as_node p ∷ ys → cond b (map child' (children_at (without_child l p.slot) j)) [] ≡ xs ++ ys
+    children_here b j xs ys e =
+        ap (λ ks. cond b ks []) (map-same child' child child_same (children_at (without_child l p.slot) j))
+        ∙ children_taken b j xs ys e
 
     -- the children of any other node
     pub children_other : (j : ℕ) → (parent_at l p.slot ≡ Some j → ⊥) → map child'

@@ -4,6 +4,8 @@ pub mod Changes
 pub mod Seats
 pub mod Fresh
 pub mod Moves
+pub mod Putting
+pub mod Seen
 pub mod Siblings
 pub mod Holds
 pub mod Edited
@@ -25,10 +27,10 @@ pub mod SpentLeft
 pub mod ChildAt
 pub mod Terminators
 pub mod NewNodes
-pub mod Links
+pub mod Linking
 pub mod Answered
 pub mod Growing
-pub mod Editing
+pub mod EditsJoined
 pub mod Joining
 pub mod ChildPlaces
 pub mod Backs

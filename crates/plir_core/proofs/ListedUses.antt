@@ -2,7 +2,6 @@
 use Rattle.std.proofs.Common.{◌≡◌, ℕ, zero, suc, ◌+◌, ◌<◌, ◌≤◌, Bool, true, false, cond, List, [], ◌∷◌, ◌++◌, length}
 use Rattle.std.proofs.Common.{Option, Some, None, inl, inr, refl, sym, ◌∙◌, ap, subst, arith, take, get_or}
 use Rattle.std.specs.Prelude.{count_by}
-use Rattle.std.proofs.lemmas.Bool.{cases_eq}
 use Rattle.std.proofs.lemmas.List.{append-nil, append_assoc, length-append, length-take-le}
 use Rattle.std.proofs.Math.Seq.{take-suc}
 use Rattle.std.proofs.lemmas.List.Sums.{sum_by-cons}
@@ -24,7 +23,7 @@ use Rattle.plir_core.specs.Stored.{seat_of}
 use Rattle.plir_core.specs.Uses.{total, blocks_in, is_seated, uses_held}
 use Rattle.plir_core.specs.ValueUses.{times_in}
 use Rattle.plir_core.specs.ListedUses.{joined, use_if, uses_from, used_in, used_node, node_uses_in, AreListed}
-use Rattle.plir_core.proofs.Noted.{total-next, held_fewer}
+use Rattle.plir_core.proofs.Noted.{total-next, held_fewer, up_from}
 use Rattle.plir_core.proofs.NotUsed.{seated_value}
 
 pub joined-next : {X : Type 0} (f : ℕ → List X) (n : ℕ) → joined f (n + 1) ≡ joined f n ++ f n
@@ -47,21 +46,14 @@ module _ {X : Type 0} (w : ℕ → ℕ) (f : ℕ → List X) (least : (k : ℕ) 
       record { more = 0; sum = omega (arith, t); same = λ z. sym (ap (joined f) e) }
 
   grows : (a b : ℕ) → a ≤ b → Grows w f a b
-  grows a zero h = stays a zero (omega arith)
-  grows a (suc b) h = elim (cases_eq a (suc b)) [
-    | inl e ↦ stays a (suc b) e
-    | inr ne ↦
-        let r = grows a b (omega arith) in
-        let l = least b in
-        record {
-          more = r.more + w b;
-          sum = let x = r.sum in omega (arith, x);
-          same = λ z.
-              ap (λ xs. joined f b ++ xs) (nothing (f b) (omega (arith, z, l)))
-              ∙ append-nil (joined f b)
-              ∙ r.same (omega (arith, z));
-        }
-  ]
+  grows = up_from (Grows w f) stays (λ (a b : ℕ) (r : Grows w f a b). let l = least b in record {
+    more = r.more + w b;
+    sum = let x = r.sum in omega (arith, x);
+    same = λ z.
+        ap (λ xs. joined f b ++ xs) (nothing (f b) (omega (arith, z, l)))
+        ∙ append-nil (joined f b)
+        ∙ r.same (omega (arith, z));
+  })
 
 module _ {X : Type 0} (is : X → Bool) (p : Ptr OperationKind) (U : Type 0) where
   if-length : (i : ℕ) (b : Bool) → length (use_if {U = U} b p i) ≡ cond {A = ℕ} b 1 0
@@ -101,6 +93,16 @@ module _ {X U : Type 0} (is : X → Bool) (p : Ptr OperationKind) where
       ∙ ap (λ zs. uses_from is p 0 zs) (take-suc xs n d below)
       ∙ from-snoc 0 (take n xs) (get_or xs n d)
       ∙ ap (λ k. uses_from is p 0 (take n xs) ++ use_if (is (get_or xs n d)) p k) l
+
+  -- behind a list of such places, once one thing more is looked at: t says whether it is one
+  pub listed_more : (old us now : List (Use U)) (xs : List X) (n : ℕ) (d : X) (t : Bool) → now ≡ us ++ use_if t p n → us ≡
+      old ++ uses_from is p 0 (take n xs) → t ≡ is (get_or xs n d) → n < length xs → now ≡ old ++ uses_from is p 0
+      (take (n + 1) xs)
+  listed_more old us now xs n d t e so_far told below =
+      e ∙ ap (λ zs. zs ++ use_if t p n) so_far
+      ∙ append_assoc old (uses_from is p 0 (take n xs)) (use_if t p n)
+      ∙ ap (λ b. old ++ (uses_from is p 0 (take n xs) ++ use_if b p n)) told
+      ∙ ap (λ zs. old ++ zs) (sym (from-take xs n d below))
 
 -- a block is among others no more often than its seat is used
 module _ (b : Ptr BasicBlockKind) where

@@ -26,7 +26,7 @@ use Rattle.plir_core.proofs.Changes.{IsStored-unlink_block, IsStored-held_op, Is
 use Rattle.plir_core.proofs.Seats.{ptr_of_parts, live_some, parent_over, reach_seat}
 use Rattle.plir_store.specs.MemberLaws.{Has-at}
 
-module _ {O B : Type 0} (s t : Nodes O B) (view : s ≡ t) (w : IsStored s) where
+module _ {O B : Type 0} {s t : Nodes O B} (view : s ≡ t) (w : IsStored s) where
   live_of : (n : IRNode) → is_node_live t n ≡ true → is_node_live s n ≡ true
   live_of n live = subst (λ z. is_node_live z n ≡ true) (sym view) live
 
@@ -188,15 +188,15 @@ module _ {O B : Type 0} (s t : Nodes O B) (view : s ≡ t) (w : IsStored s) wher
       c.not_above
   block_put_at b (After m) l c = block_put_beside with_after IsMoved-after b m l c.live c.named_live c.linked c.not_above
 
-  pub op_unlinked : (o : Ptr OperationKind) (l : Lists) → is_node_live t (Operation o) ≡ true → l ≡ without_child
+  pub op_out : (o : Ptr OperationKind) (l : Lists) → is_node_live t (Operation o) ≡ true → l ≡ without_child
       s.ops_in_block o.slot → IsAgreed l → IsStored (record s { ops_in_block = l })
-  op_unlinked o l live e a =
+  op_out o l live e a =
       IsStored-unlink_op s w l o.slot (subst (λ z. IsMoved s.ops_in_block z o.slot None) (sym e)
       (IsMoved-out s.ops_in_block o.slot (op_in o live))) a
 
-  pub block_unlinked : (b : Ptr BasicBlockKind) (l : Lists) → is_node_live t (BasicBlock b) ≡ true → l ≡ without_child
+  pub block_out : (b : Ptr BasicBlockKind) (l : Lists) → is_node_live t (BasicBlock b) ≡ true → l ≡ without_child
       s.blocks_in_region b.slot → IsAgreed l → IsStored (record s { blocks_in_region = l })
-  block_unlinked b l live e a =
+  block_out b l live e a =
       IsStored-unlink_block s w l b.slot (subst (λ z. IsMoved s.blocks_in_region z b.slot None) (sym e)
       (IsMoved-out s.blocks_in_region b.slot (block_in b live))) a
 

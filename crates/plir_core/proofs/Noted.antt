@@ -18,6 +18,15 @@ use Rattle.plir_core.proofs.Rewiring.{time}
 pub total-next : (f : ℕ → ℕ) (n : ℕ) → total f (n + 1) ≡ total f n + f n
 total-next f n = let e : n + 1 ≡ suc n = omega arith in ap (total f) e
 
+-- what holds of each number and itself, and of the next one where it holds of one, holds of all from a number on
+pub up_from : (P : ℕ → ℕ → Type 0) → ((a b : ℕ) → a ≡ b → P a b) → ((a b : ℕ) → P a b → P a (suc b)) → (a b : ℕ) → a ≤ b
+    → P a b
+up_from P same more a zero h = same a zero (omega arith)
+up_from P same more a (suc b) h = elim (cases_eq a (suc b)) [
+  | inl e ↦ same a (suc b) e
+  | inr ne ↦ more a b (up_from P same more a b (omega arith))
+]
+
 -- From a to b the sum of f has grown, and that of g by no more.
 record Grows (f g : ℕ → ℕ) (a b : ℕ) : Type 0 where
   more : ℕ
@@ -34,20 +43,13 @@ module _ (f g : ℕ → ℕ) (least : (k : ℕ) → g k ≤ f k) where
       record { more = 0; more_own = 0; fewer = omega arith; all = omega (arith, t); own = omega (arith, u) }
 
   grows : (a b : ℕ) → a ≤ b → Grows f g a b
-  grows a zero h = stays a zero (omega arith)
-  grows a (suc b) h = elim (cases_eq a (suc b)) [
-    | inl e ↦ stays a (suc b) e
-    | inr ne ↦
-        let r = grows a b (omega arith) in
-        let z = least b in
-        record {
-          more = r.more + f b;
-          more_own = r.more_own + g b;
-          fewer = let x = r.fewer in omega (arith, x, z);
-          all = let x = r.all in omega (arith, x);
-          own = let x = r.own in omega (arith, x);
-        }
-  ]
+  grows = up_from (Grows f g) stays (λ (a b : ℕ) (r : Grows f g a b). let z = least b in record {
+    more = r.more + f b;
+    more_own = r.more_own + g b;
+    fewer = let x = r.fewer in omega (arith, x, z);
+    all = let x = r.all in omega (arith, x);
+    own = let x = r.own in omega (arith, x);
+  })
 
 -- a value is among others no more often than what it comes from
 module _ (v : Value) where

@@ -21,7 +21,7 @@ use Rattle.plir_core.specs.Rewired.{IsRewired}
 use Rattle.plir_core.specs.SameValue.{same_value, value-exact}
 use Rattle.plir_core.specs.Uses.{total}
 use Rattle.plir_core.specs.ValueUses.{HasUses, times_in, uses_in_slot, num_uses_of}
-use Rattle.plir_core.proofs.Editing.{IsAlike, alike_same, keeps_alike}
+use Rattle.plir_core.proofs.EditsJoined.{IsAlike, alike_same, keeps_alike}
 use Rattle.plir_core.proofs.Freed.{bool_cases}
 use Rattle.plir_core.proofs.TimesUsed.{not_same}
 

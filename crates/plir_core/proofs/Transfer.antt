@@ -166,13 +166,18 @@ module _ {O B : Type 0} (s : Nodes O B) (source over first : IRNode) where
   tail-start away xs ys e = moving-start s source over xs (first ∷ ys) (node_children s over) [] (Some first) e
       (sym (append-nil (node_children s over))) refl away
 
-  pub tail-end : (t : Nodes O B) → IsTailMoving s t source over first None → IsSplitOff s t source first over
-  tail-end t m xs ys e = subst (λ z. IsTransferred s t source over (first ∷ ys) xs z)
+  pub tail-end : (t : Nodes O B) (next : Option IRNode) → IsTailMoving s t source over first next → next ≡ None →
+      IsSplitOff s t source first over
+  tail-end t next m none xs ys e = subst (λ z. IsTransferred s t source over (first ∷ ys) xs z)
       (append-nil (node_children s over ++ first ∷ ys)) (moving-end s source over xs (first ∷ ys)
-      (node_children s over) [] t (m xs ys e))
+      (node_children s over) [] t (subst (IsMoving s t source over xs (first ∷ ys) (node_children s over) []) none
+      (m xs ys e)))
 
-  module _ (w : IsStored s) (child : node_parent s first ≡ Some source) (t : Nodes O B) (v : IsStored t) (n : IRNode)
-      (m : IsTailMoving s t source over first (Some n)) where
+  module _ (w : IsStored s) (child : node_parent s first ≡ Some source) (t : Nodes O B) (v : IsStored t)
+      (next : Option IRNode) (so_far : IsTailMoving s t source over first next) (n : IRNode) (is : next ≡ Some n) where
+    m : IsTailMoving s t source over first (Some n)
+    m xs ys e = subst (IsMoving s t source over xs (first ∷ ys) (node_children s over) []) is (so_far xs ys e)
+
     parts : (xs : List IRNode) × (ys : List IRNode) × (node_children s source ≡ xs ++ first ∷ ys)
     parts = Has-split (node_children s source) first (parent-child s w source first child)
 
@@ -204,6 +209,13 @@ module _ {O B : Type 0} (s : Nodes O B) (source over first : IRNode) where
         unfolding one
         tail-fewer = moving-fewer s source over parts.0 (first ∷ parts.1) (node_children s over) [] t v n one out u now
             (placed parts.0 parts.1 parts.2)
+
+-- n can come to stand beside the mark.
+pub record CanStandBeside {O B : Type 0} (t : Nodes O B) (mark n : IRNode) : Type 0 where
+  pub live : is_node_live t n ≡ true
+  pub mark_live : is_node_live t mark ≡ true
+  pub linked : IsSome (node_parent t mark)
+  pub not_above : Reaches (node_parent t) mark n → ⊥
 
 -- All operations of a block come to stand right before one of another block.
 abbrev pub IsAllMoving : {O B : Type 0} (s t : Nodes O B) (source mark : IRNode) → Type 0
@@ -246,18 +258,17 @@ module _ {O B : Type 0} (s : Nodes O B) (source mark : IRNode) (w : IsStored s) 
     mark_there = subst (λ z. Has z mark) (sym this.so_far.children_over)
         (Has-mid (sides.0 ++ this.done) sides.1 mark)
 
-    pub mark-live : is_node_live t mark ≡ true
-    mark-live = child-live t v over_is.0 mark mark_there
-
-    pub mark-parent : node_parent t mark ≡ Some over_is.0
+    mark-parent : node_parent t mark ≡ Some over_is.0
     mark-parent = child-parent t v over_is.0 mark mark_there
 
-    pub mark-linked : IsSome (node_parent t mark)
-    mark-linked = some_is (node_parent t mark) over_is.0 mark-parent
-
-    pub all-away : Reaches (node_parent t) mark n → ⊥
-    all-away = away_from s source over_is.0 [] (node_children s source) sides.0 (mark ∷ sides.1) t v n this mark
-        mark-parent
+    pub all-next : CanStandBeside t mark n
+    all-next = record {
+      live = live_here s source over_is.0 [] (node_children s source) sides.0 (mark ∷ sides.1) t v n this;
+      mark_live = child-live t v over_is.0 mark mark_there;
+      linked = some_is (node_parent t mark) over_is.0 mark-parent;
+      not_above = away_from s source over_is.0 [] (node_children s source) sides.0 (mark ∷ sides.1) t v n this mark
+          mark-parent;
+    }
 
     module _ (now : Nodes O B) (p : IsMovedBefore t now n mark) where
       put : (over : IRNode) (xs ys : List IRNode) (e : node_children s over ≡ xs ++ mark ∷ ys) → IsPlaced p.0 now n over

@@ -12,8 +12,8 @@ ghost use Rattle.plir_core.specs.Edits.{empty};
 ghost use Rattle.plir_core.specs.declared.ptr.IRNode.{IRNode};
 
 pub(crate) mod contents;
-mod erasing;
 mod index;
+mod links;
 pub(crate) mod making;
 pub(crate) mod moving;
 mod tree_walk;

@@ -1,13 +1,10 @@
 //! Calls that erase nodes, and the tests that they ask for.
-ghost use Rattle.std.specs.Prelude.{◌≡◌, IsTrue, ◌↔◌, [], true};
-ghost use Rattle.plir_core.specs.ContextView.{IsLive, IsAncestor};
-ghost use Rattle.plir_core.specs.WellFormed.{IsWellFormed};
-ghost use Rattle.plir_core.specs.Nodes.{is_node_live, node_children};
-ghost use Rattle.plir_core.specs.Stored.{IsStored};
-ghost use Rattle.plir_core.specs.Uses.{StaysCounted};
+ghost use Rattle.std.specs.Prelude.{◌≡◌, ◌<◌, IsTrue, ◌↔◌, [], true, length, remove};
+ghost use Rattle.plir_core.specs.{Nodes.is_node_live, Nodes.node_children, Stored.IsStored, Uses.StaysCounted};
+ghost use Rattle.plir_core.specs.{WellFormed.IsWellFormed, declared.ptr.IRNode.IRNode};
+ghost use Rattle.plir_core.specs.ContextView.{IsLive, IsAncestor, children};
 ghost use Rattle.plir_core.specs.Erase.{without_node, erased, IsErased};
-ghost use Rattle.plir_core.specs.Unused.{IsUnusedOutside, without_tree};
-ghost use Rattle.plir_core.specs.declared.ptr.IRNode.{IRNode};
+ghost use Rattle.plir_core.specs.Unused.{IsUnusedOutside, without_tree, child_at};
 
 use crate::arena::Arena;
 use crate::arena::contents::{BlockData, OpData};
@@ -37,6 +34,57 @@ impl IRNode {
     {
         let _types = &ctx.types;
         ctx.is_unused_outside(self)
+    }
+}
+
+impl<O: Drop, B: Drop> Arena<O, B> {
+    /// Takes a node without children out of its list and frees its slot.
+    pub(crate) fn free(&mut self, node: IRNode)
+        requires live { is_node_live self.old node ≡ true }
+        requires leaf { node_children self.old node ≡ [] }
+        ensures after { self.new ≡ without_node self.old node }
+        ensures stored { IsStored self.new }
+    {
+        match node {
+            IRNode::Operation(op) => {
+                self.ops_in_block.remove(op.slot);
+                self.ops.remove(op.slot);
+            }
+            IRNode::Region(region) => {
+                self.regions_in_op.remove(region.slot);
+                self.regions.remove(region.slot);
+            }
+            IRNode::BasicBlock(block) => {
+                self.blocks_in_region.remove(block.slot);
+                self.blocks.remove(block.slot);
+            }
+        }
+    }
+
+    /// Erases a node with all that is below it: each node is freed after those below it, children in order.
+    pub(crate) fn erase(&mut self, root: IRNode)
+        requires { is_node_live self.old root ≡ true }
+        ensures after { self.new ≡ erased self.old root }
+        ensures tree { IsErased self.old self.new root }
+    {
+        let _limit = &self.limit;
+        let mut at = root;
+        loop {
+            match self.first_child(at) {
+                Some(child) => at = child,
+                None => {
+                    let over = self.parent(at);
+                    self.free(at);
+                    if at == root {
+                        return;
+                    }
+                    match over {
+                        Some(parent) => at = parent,
+                        None => unreachable!(),
+                    }
+                }
+            }
+        }
     }
 }
 
@@ -110,6 +158,23 @@ impl Operation {
     {
         prove!(op.is_live(ctx), "the operation is not live");
         erase_tree(IRNode::Operation(op), ctx);
+    }
+
+    /// Erases the region that `get_region` finds at a place, from 0, among those of an operation, with all below it,
+    /// whose values and blocks nothing else uses (`IRNode::is_unused_outside`). Each node is freed after those below
+    /// it, children in order. Later regions move down by one.
+    pub fn erase_region<D: OpSet>(op: Ptr<Operation>, ctx: &mut Context<D>, i: usize)
+        requires live { IsLive ctx.old (IRNode.Operation op) }
+        requires below { i < length (children ctx.old (IRNode.Operation op)) }
+        requires unused { IsUnusedOutside ctx.old (child_at ctx.old (IRNode.Operation op) i) }
+        ensures after { ctx.new ≡ without_tree ctx.old (child_at ctx.old (IRNode.Operation op) i) }
+        ensures tree { IsErased ctx.old.nodes ctx.new.nodes (child_at ctx.old (IRNode.Operation op) i) }
+        ensures left { children ctx.new (IRNode.Operation op) ≡ remove (children ctx.old (IRNode.Operation op)) i }
+        ensures whole { IsWellFormed D.attr_handles ctx.new }
+    {
+        prove!(op.is_live(ctx), "the operation is not live");
+        let region = op.get_region(ctx, i);
+        erase_tree(IRNode::Region(region), ctx);
     }
 }
 

@@ -1,8 +1,6 @@
 //! Where an operation is to be put.
 ghost use Rattle.std.specs.Prelude.{◌≡◌, ◌↔◌, IfSome, IsTrue, option_map};
-ghost use Rattle.plir_core.specs.ContextView.{IsLive};
-ghost use Rattle.plir_core.specs.WellFormed.{IsWellFormed};
-ghost use Rattle.plir_core.specs.declared.ptr.IRNode.{IRNode};
+ghost use Rattle.plir_core.specs.{ContextView.IsLive, WellFormed.IsWellFormed, declared.ptr.IRNode.IRNode};
 
 use crate::context::Context;
 use crate::ptr::{BasicBlock, Operation, Ptr};

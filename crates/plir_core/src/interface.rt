@@ -1,9 +1,7 @@
 //! The interfaces that kinds of operations implement.
 ghost use Rattle.std.specs.Prelude.{◌≡◌, IfSome};
-ghost use Rattle.plir_core.specs.ContextView.{IsLive, kind_of};
-ghost use Rattle.plir_core.specs.Interfaces.{implements};
-ghost use Rattle.plir_core.specs.WellFormed.{IsWellFormed};
-ghost use Rattle.plir_core.specs.declared.ptr.IRNode.{IRNode};
+ghost use Rattle.plir_core.specs.{ContextView.IsLive, ContextView.kind_of, Interfaces.implements};
+ghost use Rattle.plir_core.specs.{WellFormed.IsWellFormed, declared.ptr.IRNode.IRNode};
 
 use crate::context::Context;
 use crate::ptr::{Operation, Ptr};

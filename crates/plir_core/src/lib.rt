@@ -3,18 +3,20 @@
 #![tactic(auto)]
 
 mod arena;
-mod block;
 mod context;
+mod editing;
 mod erasing;
+mod held;
 mod insertion_point;
 mod interface;
 pub mod laws;
 mod less_than;
+mod links;
+mod new_nodes;
 mod node;
-mod operation;
 mod placing;
 mod ptr;
-mod region;
+mod splicing;
 mod uses;
 mod value;
 

@@ -69,12 +69,6 @@ impl fmt::Display for Ptr<Operation> {
     }
 }
 
-impl fmt::Debug for Ptr<Operation> {
-    fn fmt<W: fmt::Write>(&self, f: &mut fmt::Formatter<W>) -> fmt::Result {
-        write!(f, "{self}")
-    }
-}
-
 impl fmt::Display for Ptr<Region> {
     ghost output = { λ p. Some (pointer_text (codes "region") p) };
 
@@ -83,23 +77,11 @@ impl fmt::Display for Ptr<Region> {
     }
 }
 
-impl fmt::Debug for Ptr<Region> {
-    fn fmt<W: fmt::Write>(&self, f: &mut fmt::Formatter<W>) -> fmt::Result {
-        write!(f, "{self}")
-    }
-}
-
 impl fmt::Display for Ptr<BasicBlock> {
     ghost output = { λ p. Some (pointer_text (codes "block") p) };
 
     fn fmt<W: fmt::Write>(&self, f: &mut fmt::Formatter<W>) -> fmt::Result {
         write!(f, "block{}v{}", self.index(), self.version)
-    }
-}
-
-impl fmt::Debug for Ptr<BasicBlock> {
-    fn fmt<W: fmt::Write>(&self, f: &mut fmt::Formatter<W>) -> fmt::Result {
-        write!(f, "{self}")
     }
 }
 
@@ -112,5 +94,23 @@ impl fmt::Display for IRNode {
             IRNode::BasicBlock(block) => write!(f, "{block}"),
             IRNode::Region(region) => write!(f, "{region}"),
         }
+    }
+}
+
+impl fmt::Debug for Ptr<Operation> {
+    fn fmt<W: fmt::Write>(&self, f: &mut fmt::Formatter<W>) -> fmt::Result {
+        write!(f, "{self}")
+    }
+}
+
+impl fmt::Debug for Ptr<Region> {
+    fn fmt<W: fmt::Write>(&self, f: &mut fmt::Formatter<W>) -> fmt::Result {
+        write!(f, "{self}")
+    }
+}
+
+impl fmt::Debug for Ptr<BasicBlock> {
+    fn fmt<W: fmt::Write>(&self, f: &mut fmt::Formatter<W>) -> fmt::Result {
+        write!(f, "{self}")
     }
 }

@@ -46,13 +46,6 @@ impl Use<Value> {
         self.op
     }
 
-    /// The place among the operation's operands, from 0.
-    pub fn opd_idx(self) -> usize
-        ensures { result ≡ self.index }
-    {
-        self.index
-    }
-
     /// The value that is used: the operand at this place.
     pub fn get_def<D: OpSet>(self, ctx: &Context<D>) -> Value
         requires live { IsLive ctx.now (IRNode.Operation self.op) }
@@ -62,6 +55,13 @@ impl Use<Value> {
         ensures whole { IsWellFormed D.attr_handles ctx.now }
     {
         self.op.get_operand(ctx, self.index)
+    }
+
+    /// The place among the operation's operands, from 0.
+    pub fn opd_idx(self) -> usize
+        ensures { result ≡ self.index }
+    {
+        self.index
     }
 }
 

@@ -62,11 +62,7 @@ impl<D: OpSet> Model for BlockData<D> {
 
     ghost coded = { Prim.hlevel (codes, attr_code D.Attr.code) };
 
-    ghost view = { λ b. record {
-      label = b.label;
-      arg_types = b.arg_types;
-      attributes = b.attributes;
-    } };
+    ghost view = { λ b. record { label = b.label; arg_types = b.arg_types; attributes = b.attributes } };
 }
 
 impl<D: OpSet> OpData<D> {
@@ -74,12 +70,12 @@ impl<D: OpSet> OpData<D> {
     /// anything is made: that the limit of live nodes would be passed, and else that memory ran out.
     pub(crate) fn new(
         nodes: &Arena<OpData<D>, BlockData<D>>,
+        num_regions: usize,
         kind: OpKind<D::Kind>,
         result_types: Vec<TypeHandle>,
         operands: Vec<Value>,
         successors: Vec<Ptr<BasicBlock>>,
         attributes: AttributeDict<D>,
-        num_regions: usize,
     ) -> Result<OpData<D>, NodeErr>
         ensures held { IfOk result
             (λ o. o ≡ op_view kind result_types.items operands.items successors.items attributes) }

@@ -1,24 +1,12 @@
-//! A walk through a tree by its links, each node before those below it, with no recursion.
-ghost use Rattle.std.specs.Prelude.{◌≡◌, None, IfSome, true};
-ghost use Rattle.plir_core.specs.Nodes.{is_node_live, node_next};
+//! A walk through a tree by its links, each node before those below it, with no recursion, and what stands above what.
+ghost use Rattle.std.specs.Prelude.{◌≡◌, ◌↔◌, None, IfSome, IsTrue, true};
+ghost use Rattle.plir_core.specs.{Above.Reaches, Nodes.is_node_live, Nodes.node_parent};
 ghost use Rattle.plir_core.specs.Walked.{GoesOn, GoesOnBehind, Ends, EndsBehind};
 
 use crate::arena::Arena;
 use crate::ptr::IRNode;
 
 impl<O, B> Arena<O, B> {
-    /// The child right after a node of any kind.
-    pub(crate) fn next(&self, node: IRNode) -> Option<IRNode>
-        requires { is_node_live self.now node ≡ true }
-        ensures { result ≡ node_next self.now node }
-    {
-        match node {
-            IRNode::Operation(op) => self.next_op(op).map(IRNode::Operation),
-            IRNode::Region(region) => self.next_region(region).map(IRNode::Region),
-            IRNode::BasicBlock(block) => self.next_block(block).map(IRNode::BasicBlock),
-        }
-    }
-
     // Where a walk through the tree of the root goes on after a node and all below it.
     fn next_after(&self, root: IRNode, node: IRNode) -> Option<IRNode>
         requires { is_node_live self.now node ≡ true }
@@ -50,5 +38,21 @@ impl<O, B> Arena<O, B> {
             Some(child) => Some(child),
             None => self.next_after(root, node),
         }
+    }
+
+    /// Whether a node is another one or stands above it.
+    pub(crate) fn is_ancestor(&self, ancestor: IRNode, node: IRNode) -> bool
+        requires { is_node_live self.now node ≡ true }
+        ensures { IsTrue result ↔ Reaches (node_parent self.now) node ancestor }
+    {
+        let _limit = &self.limit;
+        let mut at = Some(node);
+        while let Some(current) = at {
+            if current == ancestor {
+                return true;
+            }
+            at = self.parent(current);
+        }
+        false
     }
 }

@@ -1,17 +1,14 @@
 //! Whether anything outside a tree of nodes uses what is in it.
-ghost use Rattle.std.specs.Prelude.{◌≡◌, ◌<◌, ◌≤◌, ◌-◌, ◌^◌, min, length, true, IsTrue, ◌↔◌, All};
-ghost use Rattle.std.specs.Prelude.{Option, Some, None, IfSome};
-ghost use Rattle.std.specs.List.{sum_by};
-ghost use Rattle.plir_core.specs.Erase.{tree_of};
-ghost use Rattle.plir_core.specs.Stored.{seat_of};
-ghost use Rattle.plir_store.specs.Table.{content_at};
-ghost use Rattle.plir_core.specs.Above.{Reaches};
+ghost use Rattle.std.specs.Prelude.{◌≡◌, ◌<◌, ◌≤◌, ◌-◌, ◌^◌, min, length, true, IsTrue, ◌↔◌, All, Option, Some, None};
+ghost use Rattle.std.specs.Prelude.{IfSome};
+ghost use Rattle.std.specs.{List.sum_by};
+ghost use Rattle.plir_store.specs.{Table.content_at};
+ghost use Rattle.plir_core.specs.{Above.Reaches, ContextView.IsLive, ContextView.entity_node, Erase.tree_of};
+ghost use Rattle.plir_core.specs.{Stored.seat_of, declared.ptr.IRNode.IRNode};
 ghost use Rattle.plir_core.specs.Nodes.{is_node_live, node_parent, ptr_at};
-ghost use Rattle.plir_core.specs.ContextView.{IsLive, entity_node};
 ghost use Rattle.plir_core.specs.Unused.{UsesNoneOf, IsUnusedAt, IsUnusedOutside};
-ghost use Rattle.plir_core.specs.Uses.{is_not_used, is_seated, places_in, uses_of, values_from, blocks_in};
-ghost use Rattle.plir_core.specs.Uses.{uses_within, uses_of_tree, uses_inside};
-ghost use Rattle.plir_core.specs.declared.ptr.IRNode.{IRNode};
+ghost use Rattle.plir_core.specs.Uses.{is_not_used, is_seated, places_in, uses_of, values_from, blocks_in, uses_within};
+ghost use Rattle.plir_core.specs.Uses.{uses_of_tree, uses_inside};
 
 use crate::arena::Arena;
 use crate::context::Context;

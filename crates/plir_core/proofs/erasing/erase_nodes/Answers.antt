@@ -35,6 +35,9 @@ returns-then-eq-clause-tree g c =
     subst (λ t. IsErased c.args.nodes.now t c.args.root) (sym (returns-then-eq-clause-after g c))
     (IsErased-tree c.args.nodes.now (subst IsStored c.nodes.view_is c.nodes.invariant) c.args.root c.requires)
 
+pub returns-then-eq-clause-counted : goal.returns-then-eq-clause-counted
+returns-then-eq-clause-counted g c = λ z. c.free_node.ensures.counted (c.loop-child.invariant.counted z)
+
 pub loop-child-smaller : goal.loop-child-smaller
 loop-child-smaller g c =
     let below : c.loop-child.at ≡ c.args.root → ⊥ = search rules in
@@ -51,9 +54,6 @@ loop-child-preserved g c =
           c.in-None.is) below (sym c.parent-over.ensures ∙ c.in-Some-over.is));
       counted = λ z. c.free_node.ensures.counted (c.loop-child.invariant.counted z);
     }
-
-pub returns-then-eq-clause-counted : goal.returns-then-eq-clause-counted
-returns-then-eq-clause-counted g c = λ z. c.free_node.ensures.counted (c.loop-child.invariant.counted z)
 
 pub unreachable-requires : goal.unreachable-requires
 unreachable-requires g c =

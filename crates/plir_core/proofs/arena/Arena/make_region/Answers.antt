@@ -14,7 +14,7 @@ push_back-requires-clause-loose g c =
 
 pub invariant_of-self-2 : goal.invariant_of-self-2
 invariant_of-self-2 g c =
-    region_made _ _ c.self.view_is c.self.invariant _ _ _ _ c.args.op c.in_ok-slot.slot c.requires
+    region_made c.self.view_is c.self.invariant _ _ _ _ c.args.op c.in_ok-slot.slot c.requires
     c.in_ok-slot.ensures.slot c.in_ok-slot.ensures.filled c.in_ok-slot.ensures.below c.in_ok-slot.ensures.beside
     c.push_back.ensures.after c.in_ok-slot.ensures.below_agreed c.in_ok-slot.ensures.beside_agreed
     c.push_back.ensures.agreed

@@ -1,18 +1,17 @@
 use Rattle.std.proofs.Common.{◌≡◌, ◌+◌, ◌++◌, ◌∙◌, length, ap, subst, sym, arith, rules}
 use Rattle.plir_store.specs.Table.{content_at}
-use Rattle.plir_core.specs.ContextView.{ContextView}
 use Rattle.plir_core.specs.Stored.{seat_of}
 use Rattle.plir_core.specs.Uses.{uses_held}
 use Rattle.plir_core.specs.ListedUses.{AreListed, used_in, used_node, node_uses_in}
 use Rattle.plir_core.proofs.ListedUses.{AreListed-more}
+use Rattle.plir_core.proofs.Seen.{slots_seen}
 use Rattle.plir_core.proofs.context.Context.list_more.Goals as goal
 
 pub returns : goal.returns
 returns g c =
     let s = c.args.self.now in
     let u = c.args.used in
-    let same = ap (λ (z : ContextView g.row.D-Kind.Denot g.row.D-Attr.Denot g.row.D-Ty.Denot). length z.nodes.ops.slots)
-    c.self.view_is in
+    let same = slots_seen c.self.view_is in
     let count : c.in-Some.count ≡ node_uses_in s (used_node u) c.args.slot =
     c.in-Some.ensures ∙ ap (λ n. uses_held (seat_of n) (content_at s.nodes.ops c.args.slot)) c.node.ensures in
     let seen : c.in-Some-checked_add.seen ≡ c.args.come.seen + c.in-Some.count = search rules in

@@ -1,18 +1,18 @@
 use Rattle.std.proofs.Common.{◌≡◌, ◌+◌, ◌∙◌, length, ap, subst, arith, rules}
 use Rattle.plir_store.specs.Table.{content_at}
-use Rattle.plir_core.specs.ContextView.{ContextView, entity_node}
+use Rattle.plir_core.specs.ContextView.{entity_node}
 use Rattle.plir_core.specs.Stored.{seat_of}
 use Rattle.plir_core.specs.Uses.{uses_held}
 use Rattle.plir_core.specs.Noted.{AreSeen, owner_uses_in}
 use Rattle.plir_core.proofs.Noted.{AreSeen-more}
+use Rattle.plir_core.proofs.Seen.{slots_seen}
 use Rattle.plir_core.proofs.context.Context.see.Goals as goal
 
 pub returns : goal.returns
 returns g c =
     let s = c.args.self.now in
     let v = c.args.value in
-    let same = ap (λ (z : ContextView g.row.D-Kind.Denot g.row.D-Attr.Denot g.row.D-Ty.Denot). length z.nodes.ops.slots)
-    c.self.view_is in
+    let same = slots_seen c.self.view_is in
     let owner : c.in_ok-owner.owner ≡ owner_uses_in s v c.args.slot =
     c.in_ok-owner.ensures
     ∙ ap (λ n. uses_held (seat_of n) (content_at s.nodes.ops c.args.slot)) (c.node-node.ensures ∙ ap entity_node

@@ -1,23 +1,13 @@
-use Rattle.std.proofs.Common.{◌≡◌, ◌+◌, ◌++◌, ◌∙◌, take, get_or, ap, sym, arith}
-use Rattle.std.proofs.lemmas.List.{append_assoc}
+use Rattle.std.proofs.Common.{arith}
 use Rattle.plir_core.specs.declared.ptr.Ptr.{Ptr}
 use Rattle.plir_core.specs.declared.ptr.BasicBlock.{BasicBlock}
 use Rattle.plir_core.specs.SameValue.{same_ptr}
-use Rattle.plir_core.specs.ListedUses.{use_if, uses_from}
-use Rattle.plir_core.proofs.ListedUses.{from-take}
+use Rattle.plir_core.proofs.ListedUses.{listed_more}
 use Rattle.plir_core.proofs.uses.listing.list_successors.Goals as goal
 
 pub loop-place-preserved : goal.loop-place-preserved
 loop-place-preserved g c =
-    let xs = c.args.successors.now in
-    let at = c.loop-place.place in
-    let old = c.args.uses.now.items in
-    let v = c.args.block in
-    let p = c.args.op in
-    let t = c.is_block.result in
     let d : Ptr BasicBlock = record { slot = 0; version = 0; kind = record {} } in
-    c.in_ok-list_place.ensures
-    ∙ ap (λ us. us ++ use_if t p at) c.loop-place.invariant
-    ∙ append_assoc old (uses_from (λ x. same_ptr x v) p 0 (take at xs)) (use_if t p at)
-    ∙ ap (λ b. old ++ (uses_from (λ x. same_ptr x v) p 0 (take at xs) ++ use_if b p at)) c.is_block.ensures
-    ∙ ap (λ us. old ++ us) (sym (from-take (λ x. same_ptr x v) p xs at d (omega (arith, c.loop-place-test.true))))
+    listed_more (λ x. same_ptr x c.args.block) c.args.op c.args.uses.now.items _ _ c.args.successors.now
+    c.loop-place.place d _ c.in_ok-list_place.ensures c.loop-place.invariant c.is_block.ensures
+    (omega (arith, c.loop-place-test.true))

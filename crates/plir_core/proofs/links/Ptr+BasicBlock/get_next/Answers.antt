@@ -1,0 +1,10 @@
+use Rattle.plir_core.specs.declared.ptr.IRNode.TheVariants.{BasicBlock}
+use Rattle.plir_core.proofs.links.Ptr+BasicBlock.get_next.Goals as goal
+use Rattle.plir_core.proofs.Answered.{next_told, next_shares}
+
+pub returns-clause-live : goal.returns-clause-live
+returns-clause-live g c = next_told c.ctx.view_is c.ctx.invariant.whole BasicBlock _ c.args.self c.next_block.ensures
+
+pub returns-clause-beside : goal.returns-clause-beside
+returns-clause-beside g c = next_shares c.ctx.view_is c.ctx.invariant.whole BasicBlock c.next_block.result c.args.self
+    c.next_block.ensures

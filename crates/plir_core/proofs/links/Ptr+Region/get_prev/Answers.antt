@@ -1,0 +1,10 @@
+use Rattle.plir_core.specs.declared.ptr.IRNode.TheVariants.{Region}
+use Rattle.plir_core.proofs.links.Ptr+Region.get_prev.Goals as goal
+use Rattle.plir_core.proofs.Answered.{prev_told, prev_shares}
+
+pub returns-clause-live : goal.returns-clause-live
+returns-clause-live g c = prev_told c.ctx.view_is c.ctx.invariant.whole Region _ c.args.self c.prev_region.ensures
+
+pub returns-clause-beside : goal.returns-clause-beside
+returns-clause-beside g c = prev_shares c.ctx.view_is c.ctx.invariant.whole Region c.prev_region.result c.args.self
+    c.prev_region.ensures
