@@ -1,18 +1,17 @@
 -- What follows for the rule of region edges from what is known of one edge more.
 use Rattle.std.proofs.Common.{◌≡◌, ◌↔◌, ℕ, zero, suc, ◌+◌, ◌<◌, ◌≤◌, Bool, true, false, cond, List, [], ◌∷◌, ◌++◌}
 use Rattle.std.proofs.Common.{length, take, map, get_or, Option, Some, None, inl, inr, refl, sym, ap, subst, ◌∙◌, arith}
-use Rattle.std.proofs.Common.{◌&&◌}
 use Rattle.std.specs.Prelude.{All, IsTrue, slice_get}
-use Rattle.std.specs.Bool.{Decides}
 use Rattle.std.specs.Option.{option_eq, is_some, IfSome}
 use Rattle.std.proofs.lemmas.List.Elements.{All-more}
 use Rattle.plir_flow.specs.Hops.{same_region}
 use Rattle.std.proofs.lemmas.Bool.{cases_eq}
-use Rattle.std.proofs.lemmas.Option.{same_Some, slice_get-get_or}
+use Rattle.std.proofs.lemmas.Option.{same_Some, slice_get-get_or, slice_get_within}
 use Rattle.plir_core.specs.declared.ptr.Ptr.{Ptr}
 use Rattle.plir_core.specs.declared.ptr.Operation.{Operation as OperationKind}
 use Rattle.plir_core.specs.declared.value.Value.{Value}
 use Rattle.plir_store.specs.Members.{Has, Distinct}
+use Rattle.plir_store.specs.MemberLaws.{Has-at, at-Has, map-Has}
 use Rattle.plir_core.specs.ContextView.{ContextView}
 use Rattle.plir_flow.specs.declared.edge_ends.RegionBranchPoint.{RegionBranchPoint}
 use Rattle.plir_flow.specs.declared.edge_ends.RegionSuccessor.{RegionSuccessor}
@@ -23,18 +22,14 @@ use Rattle.plir_flow.specs.declared.region_edge_errors.EdgeFault.TheVariants.{Fo
 use Rattle.plir_flow.specs.declared.region_edge_errors.EdgeFault.TheVariants.{ForeignOperand, NoArgument, NoResult}
 use Rattle.plir_flow.specs.declared.region_edge_errors.EdgeFault.TheVariants.{ReceivedTwice, OtherType}
 use Rattle.plir_flow.specs.RegionEdges.{EdgeView, Flow, receivers_on}
+use Rattle.plir_flow.specs.EdgeEquality.{same_target, target-exact}
 use Rattle.plir_flow.specs.RegionRule.{SameReceivers, HaveOtherReceivers, IsReceiver, IsFaultOfFlow, IsFaultOfEdge}
 use Rattle.plir_flow.specs.RegionRule.{IsFaultOfEdges, no_receiver, IsFlowRight}
 use Rattle.plir_flow.specs.EdgeVerdicts.{AreFirsts, target_region, IsFlowVerdict, IsFlowsVerdict, IsEdgeVerdict}
 use Rattle.plir_flow.proofs.TakenLists.{each-has, each-from-has, mapped-all, mapped-at, distinct-push}
-use Rattle.plir_flow.proofs.Exact.{same-region-exact}
+use Rattle.plir_flow.proofs.Exact.{region-as-ptr}
 
 -- receivers
-has-mapped : (fs : List Flow) (f : Flow) → Has fs f → Has (map (λ (o : Flow). o.1) fs) f.1
-has-mapped [] f h = absurd h
-has-mapped (g ∷ gs) f (inl e) = inl (ap (λ (o : Flow). o.1) e)
-has-mapped (g ∷ gs) f (inr h) = inr (has-mapped gs f h)
-
 pub within-from : (fs : List Flow) (vs : List Value) → All (λ (f : Flow). Has vs f.1) fs → (v : Value)
     → Has (map (λ (o : Flow). o.1) fs) v → Has vs v
 within-from fs vs all v h =
@@ -43,7 +38,7 @@ within-from fs vs all v h =
 
 pub within-to : (fs : List Flow) (vs : List Value) → ((v : Value) → Has (map (λ (o : Flow). o.1) fs) v → Has vs v)
     → All (λ (f : Flow). Has vs f.1) fs
-within-to fs vs all = each-from-has (λ (f : Flow). Has vs f.1) fs (λ f h. all f.1 (has-mapped fs f h))
+within-to fs vs all = each-from-has (λ (f : Flow). Has vs f.1) fs (λ f h. all f.1 (map-Has (λ (o : Flow). o.1) fs f h))
 
 pub within-like : (fs : List Flow) (us vs : List Value) → ((v : Value) → Has us v ↔ Has vs v)
     → All (λ (f : Flow). Has us f.1) fs ↔ All (λ (f : Flow). Has vs f.1) fs
@@ -72,114 +67,77 @@ module _ (d e : EdgeView) where
     λ same. within-to e.flows (receivers_on d) (λ v h. (same v).1 h),
   )
 
--- whether two successors are one
-abbrev pub same_successor : (t u : RegionSuccessor) → Bool
-same_successor (ToRegion p) (ToRegion q) = same_region p q && true
-same_successor After After = true
-same_successor _ _ = false
-
-pub same-successor-exact : (t u : RegionSuccessor) → Decides (same_successor t u) (t ≡ u)
-same-successor-exact (ToRegion p) (ToRegion q) = (
-  λ e. ap (λ r. ToRegion r) ((same-region-exact p q).0 (grind arith)),
-  λ e. let s : p ≡ q = cc in let h = (same-region-exact p q).1 s in grind (arith, h),
-)
-same-successor-exact (ToRegion p) After =
-    (λ e. absurd (let f : false ≡ true = e in cc), λ e. absurd (let f : ToRegion p ≡ After = e in cc))
-same-successor-exact After (ToRegion q) =
-    (λ e. absurd (let f : false ≡ true = e in cc), λ e. absurd (let f : After ≡ ToRegion q = e in cc))
-same-successor-exact After After = (λ e. refl, λ e. refl)
-
-and-true : (b : Bool) → b ≡ (b && true)
-and-true true = refl
-and-true false = refl
-
-pub target-same : (t u : RegionSuccessor)
-    → option_eq same_region (target_region t) (target_region u) ≡ same_successor t u
-target-same (ToRegion p) (ToRegion q) = and-true (same_region p q)
+-- the targets are the same where the regions are that they lead to
+pub target-same : (t u : RegionSuccessor) → option_eq same_region (target_region t) (target_region u) ≡ same_target t u
+target-same (ToRegion p) (ToRegion q) = region-as-ptr p q
 target-same (ToRegion p) After = refl
 target-same After (ToRegion q) = refl
 target-same After After = refl
 
-pub has-at : {A : Type 0} (xs : List A) (i : ℕ) (x : A) → slice_get xs i ≡ Some x → Has xs x
-has-at [] i x e = absurd (let f : None ≡ Some x = e in cc)
-has-at (y ∷ ys) zero x e = inl (same_Some y x e)
-has-at (y ∷ ys) (suc i) x e = inr (has-at ys i x e)
-
 -- the first edges with each target
 module _ (es : List EdgeView) (n : ℕ) (head : RegionSuccessor → Option ℕ) (w : AreFirsts es n head) (e : EdgeView)
     (here : slice_get es n ≡ Some e) where
+  -- an edge has the receivers of the one that its target's head names
+  abbrev HasFirst : (RegionSuccessor → Option ℕ) → EdgeView → Type 0
+  HasFirst now x = (k : ℕ) × ((y : EdgeView) × ((now x.to ≡ Some k) × (slice_get es k ≡ Some y) × SameReceivers y x))
+
+  seen-next : (now : RegionSuccessor → Option ℕ) → HasFirst now e
+      → ((j : ℕ) (x : EdgeView) → j < n → slice_get es j ≡ Some x → HasFirst now x)
+      → (j : ℕ) (x : EdgeView) → j < n + 1 → slice_get es j ≡ Some x → HasFirst now x
+  seen-next now last before j x below got = elim (cases_eq j n) [
+    | inl is ↦ subst (HasFirst now) (same_Some e x (sym here ∙ ap (slice_get es) (sym is) ∙ got)) last
+    | inr other ↦ before j x (omega arith) got
+  ]
+
   pub firsts-kept : (i : ℕ) (d : EdgeView) → head e.to ≡ Some i → slice_get es i ≡ Some d → SameReceivers d e
       → AreFirsts es (n + 1) head
-  firsts-kept i d is at same = record { seen = seen; heads = w.heads }
-    where
-      seen : (j : ℕ) (x : EdgeView) → j < n + 1 → slice_get es j ≡ Some x
-          → (k : ℕ) × ((y : EdgeView) × ((head x.to ≡ Some k) × (slice_get es k ≡ Some y) × SameReceivers y x))
-      seen j x below got = elim (cases_eq j n) [
-        | inl last ↦
-            let one : e ≡ x = same_Some e x (sym here ∙ ap (slice_get es) (sym last) ∙ got) in
-            subst (λ (z : EdgeView).
-            (k : ℕ) × ((y : EdgeView) × ((head z.to ≡ Some k) × (slice_get es k ≡ Some y) × SameReceivers y z))) one
-            (i, (d, (is, at, same)))
-        | inr other ↦ w.seen j x (omega arith) got
-      ]
+  firsts-kept i d is at same = record { seen = seen-next head (i, (d, (is, at, same))) w.seen; heads = w.heads }
 
   pub firsts-broken : (i : ℕ) (d : EdgeView) → head e.to ≡ Some i → slice_get es i ≡ Some d → (SameReceivers d e → ⊥)
       → HaveOtherReceivers es
   firsts-broken i d is at other =
       let r = w.heads e.to i is in
       let one : r.0 ≡ d = same_Some r.0 d (sym r.1.0 ∙ at) in
-      (d, (e, (has-at es i d at, has-at es n e here, subst (λ (z : EdgeView). z.to ≡ e.to) one r.1.1, other)))
+      (d, (e, (Has-at es i d at, Has-at es n e here, subst (λ (z : EdgeView). z.to ≡ e.to) one r.1.1, other)))
 
   pub firsts-new : head e.to ≡ None → (now : RegionSuccessor → Option ℕ)
-      → ((t : RegionSuccessor) → now t ≡ cond (same_successor e.to t) (Some n) (head t)) → AreFirsts es (n + 1) now
-  firsts-new absent now is = record { seen = seen; heads = heads }
+      → ((t : RegionSuccessor) → now t ≡ cond (same_target e.to t) (Some n) (head t)) → AreFirsts es (n + 1) now
+  firsts-new absent now is = record {
+    seen =
+        seen-next now (n, (e, (own, here, λ v. (λ h. h, λ h. h)))) (λ j x below got.
+        let r = w.seen j x below got in (r.0, (r.1.0, (others x.to r.0 r.1.1.0, r.1.1.1, r.1.1.2))));
+    heads = heads;
+  }
     where
       own : now e.to ≡ Some n
-      own = is e.to ∙ ap (λ b. cond b (Some n) (head e.to)) ((same-successor-exact e.to e.to).1 refl)
+      own = is e.to ∙ ap (λ b. cond b (Some n) (head e.to)) ((target-exact e.to e.to).1 refl)
 
       others : (t : RegionSuccessor) (k : ℕ) → head t ≡ Some k → now t ≡ Some k
-      others t k at = by (same_successor e.to t) refl
+      others t k at = by (same_target e.to t) refl
         where
-          by : (b : Bool) → same_successor e.to t ≡ b → now t ≡ Some k
+          by : (b : Bool) → same_target e.to t ≡ b → now t ≡ Some k
           by true same =
-              absurd (let f : e.to ≡ t = (same-successor-exact e.to t).0 same in
+              absurd (let f : e.to ≡ t = (target-exact e.to t).0 same in
               let g : None ≡ Some k = sym absent ∙ ap head f ∙ at in cc)
           by false differ = is t ∙ ap (λ b. cond b (Some n) (head t)) differ ∙ at
 
-      seen : (j : ℕ) (x : EdgeView) → j < n + 1 → slice_get es j ≡ Some x
-          → (k : ℕ) × ((y : EdgeView) × ((now x.to ≡ Some k) × (slice_get es k ≡ Some y) × SameReceivers y x))
-      seen j x below got = elim (cases_eq j n) [
-        | inl last ↦
-            let one : e ≡ x = same_Some e x (sym here ∙ ap (slice_get es) (sym last) ∙ got) in
-            subst (λ (z : EdgeView).
-            (k : ℕ) × ((y : EdgeView) × ((now z.to ≡ Some k) × (slice_get es k ≡ Some y) × SameReceivers y z))) one
-            (n, (e, (own, here, λ v. (λ h. h, λ h. h))))
-        | inr
-            other ↦ let r = w.seen j x (omega arith) got in (r.0, (r.1.0, (others x.to r.0 r.1.1.0, r.1.1.1, r.1.1.2)))
-      ]
-
       heads : (t : RegionSuccessor) (i : ℕ) → now t ≡ Some i → (y : EdgeView) × ((slice_get es i ≡ Some y) × (y.to ≡ t))
-      heads t i at = by (same_successor e.to t) refl
+      heads t i at = by (same_target e.to t) refl
         where
-          by : (b : Bool) → same_successor e.to t ≡ b → (y : EdgeView) × ((slice_get es i ≡ Some y) × (y.to ≡ t))
+          by : (b : Bool) → same_target e.to t ≡ b → (y : EdgeView) × ((slice_get es i ≡ Some y) × (y.to ≡ t))
           by true same =
               let place : n ≡ i = same_Some n i (sym (is t ∙ ap (λ b. cond b (Some n) (head t)) same) ∙ at) in
-              (e, (subst (λ k. slice_get es k ≡ Some e) place here, (same-successor-exact e.to t).0 same))
+              (e, (subst (λ k. slice_get es k ≡ Some e) place here, (target-exact e.to t).0 same))
           by false differ = w.heads t i (sym (is t ∙ ap (λ b. cond b (Some n) (head t)) differ) ∙ at)
 
 -- once all edges are seen, those with one target have one set of receivers
-at-place : {A : Type 0} (xs : List A) (x : A) → Has xs x → (i : ℕ) × ((i < length xs) × (slice_get xs i ≡ Some x))
-at-place [] x h = absurd h
-at-place (y ∷ ys) x (inl e) = (0, (omega arith, ap (λ z. Some z) e))
-at-place (y ∷ ys) x (inr h) = let r = at-place ys x h in (suc r.0, (omega (arith, r.1.0), r.1.1))
-
 pub firsts-all : (es : List EdgeView) (n : ℕ) (head : RegionSuccessor → Option ℕ) → AreFirsts es n head → length es ≤ n
     → (d e : EdgeView) → Has es d → Has es e → d.to ≡ e.to → SameReceivers d e
 firsts-all es n head w long d e hd he same v =
-    let i = at-place es d hd in
-    let j = at-place es e he in
-    let p = w.seen i.0 d (omega (arith, i.1.0)) i.1.1 in
-    let q = w.seen j.0 e (omega (arith, j.1.0)) j.1.1 in
+    let i = at-Has es d hd in
+    let j = at-Has es e he in
+    let p = w.seen i.0 d (omega (arith, slice_get_within es i.0 d i.1)) i.1 in
+    let q = w.seen j.0 e (omega (arith, slice_get_within es j.0 e j.1)) j.1 in
     let place : p.0 ≡ q.0 = same_Some p.0 q.0 (sym p.1.1.0 ∙ ap head same ∙ q.1.1.0) in
     let one : p.1.0 ≡ q.1.0 = same_Some p.1.0 q.1.0 (sym p.1.1.1 ∙ ap (slice_get es) place ∙ q.1.1.1) in
     let s = subst (λ (z : EdgeView). SameReceivers z d) one p.1.1.2 in
@@ -219,7 +177,7 @@ edge-breaks t s op es e here ReceivedTwice b = (e, (here, b))
 edge-breaks t s op es e here (OtherType x y) b = (e, (here, b))
 
 pub place-has : {A : Type 0} (xs : List A) (i : ℕ) (d : A) → i < length xs → Has xs (get_or xs i d)
-place-has xs i d h = has-at xs i (get_or xs i d) (slice_get-get_or xs i d h)
+place-has xs i d h = Has-at xs i (get_or xs i d) (slice_get-get_or xs i d h)
 
 -- an element that stands before stands twice
 pub twice : {A B : Type 0} (g : A → B) (xs : List A) (i : ℕ) (d : A) → i < length xs
@@ -227,14 +185,10 @@ pub twice : {A B : Type 0} (g : A → B) (xs : List A) (i : ℕ) (d : A) → i <
 twice g [] i d h k w = omega arith
 twice g (x ∷ xs) zero d h k w = k
 twice {A} {B} g (x ∷ xs) (suc i) d h k w = elim k [
-  | inl e ↦ w.0 (subst (Has (map g xs)) (sym e) (mapped xs i (omega arith)))
+  | inl e ↦
+      w.0 (subst (Has (map g xs)) (sym e) (map-Has g xs (get_or xs i d) (place-has xs i d (omega arith))))
   | inr r ↦ twice g xs i d (omega arith) r w.1
 ]
-  where
-    mapped : (ys : List A) (j : ℕ) → j < length ys → Has (map g ys) (g (get_or ys j d))
-    mapped [] j b = absurd (omega arith)
-    mapped (y ∷ ys) zero b = inl refl
-    mapped (y ∷ ys) (suc j) b = inr (mapped ys j (omega arith))
 
 module _ {K A T : Type 0} (is_terminator : K → Bool) (s : ContextView K A T) (op : Ptr OperationKind) where
   pub edge-reported : (es : List EdgeView) (e : EdgeView) (r : Option EdgeFault) → Has es e

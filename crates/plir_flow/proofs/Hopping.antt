@@ -6,7 +6,7 @@ use Rattle.std.specs.Bool.{Decides}
 use Rattle.std.specs.List.{list_any}
 use Rattle.std.proofs.lemmas.Bool.{cases_lt, cases_eq}
 use Rattle.std.proofs.lemmas.List.{take-append-le, length-append, length_push}
-use Rattle.std.proofs.lemmas.Option.{same_Some}
+use Rattle.std.proofs.lemmas.Option.{same_Some, slice_get_within}
 use Rattle.plir_core.specs.declared.ptr.Ptr.{Ptr}
 use Rattle.plir_core.specs.declared.ptr.Region.{Region as RegionKind}
 use Rattle.plir_store.specs.Members.{Has}
@@ -91,11 +91,6 @@ pub get-last : {A : Type 0} (xs : List A) (x : A) → slice_get (xs ++ x ∷ [])
 get-last [] x = refl
 get-last (y ∷ xs) x = get-last xs x
 
-pub get-within : {A : Type 0} (xs : List A) (i : ℕ) (x : A) → slice_get xs i ≡ Some x → i < length xs
-get-within [] i x e = absurd (let f : None ≡ Some x = e in cc)
-get-within (y ∷ xs) zero x e = omega arith
-get-within (y ∷ xs) (suc i) x e = let h : i < length xs = get-within xs i x e in omega arith
-
 -- one hop more
 module _ (hops : List Hop) (x : Hop) where
   abbrev more : List Hop
@@ -132,7 +127,7 @@ module _ (hops : List Hop) (x : Hop) where
     linked-more linked latest i h at = elim (cases_lt i (length hops)) [
       | inl below ↦ latest-kept i h.from h.earlier (omega arith) (linked i h (sym (get-front hops x i below) ∙ at))
       | inr past ↦
-          let within : i < length more = get-within more i h at in
+          let within : i < length more = slice_get_within more i h at in
           let last : i ≡ length hops = omega (arith, length_push hops x) in
           let same : x ≡ h = same_Some x h (sym (get-last hops x) ∙ ap (slice_get more) (sym last) ∙ at) in
           subst (λ (z : Hop). IsLatest more i z.from z.earlier) same
@@ -159,7 +154,7 @@ module _ (hops : List Hop) (x : Hop) where
   hops-more a b = (
     there,
     λ h. elim h [
-      | inl (i, (h, (at, f, t))) ↦ (i, (h, (get-front hops x i (get-within hops i h at) ∙ at, f, t)))
+      | inl (i, (h, (at, f, t))) ↦ (i, (h, (get-front hops x i (slice_get_within hops i h at) ∙ at, f, t)))
       | inr (f, t) ↦ (length hops, (x, (get-last hops x, f, t)))
     ],
   )
@@ -168,7 +163,7 @@ module _ (hops : List Hop) (x : Hop) where
       there (i, (h, (at, f, t))) = elim (cases_lt i (length hops)) [
         | inl below ↦ inl (i, (h, (sym (get-front hops x i below) ∙ at, f, t)))
         | inr past ↦
-            let within : i < length more = get-within more i h at in
+            let within : i < length more = slice_get_within more i h at in
             let last : i ≡ length hops = omega (arith, length_push hops x) in
             let same : x ≡ h = same_Some x h (sym (get-last hops x) ∙ ap (slice_get more) (sym last) ∙ at) in
             inr (ap (λ (z : Hop). z.from) same ∙ f, ap (λ (z : Hop). z.to) same ∙ t)
@@ -180,7 +175,7 @@ module _ (hops : List Hop) (r : Ptr RegionKind) where
   IsHopFrom n b = (i : ℕ) × ((h : Hop) × ((n ≤ i) × (slice_get hops i ≡ Some h) × (h.from ≡ r) × (h.to ≡ b)))
 
   pub from-end : (b : Ptr RegionKind) → IsHopFrom (length hops) b → ⊥
-  from-end b (i, (h, (past, at, f, t))) = let w : i < length hops = get-within hops i h at in omega arith
+  from-end b (i, (h, (past, at, f, t))) = let w : i < length hops = slice_get_within hops i h at in omega arith
 
   pub from-start : (n : ℕ) → IsNoneFrom hops 0 n r → (b : Ptr RegionKind) → IsHopFrom n b ↔ IsHop hops r b
   from-start n none b = (λ (i, (h, (past, at, f, t))). (i, (h, (at, f, t))), back)
@@ -249,12 +244,6 @@ sum-like f g = (
   λ h. elim h [ inl a ↦ inl (f.0 a) | inr b ↦ inr (g.0 b) ],
   λ h. elim h [ inl c ↦ inl (f.1 c) | inr d ↦ inr (g.1 d) ],
 )
-
-pub through : {A B C : Type 0} → (A ↔ B) → (B ↔ C) → A ↔ C
-through f g = (λ a. g.0 (f.0 a), λ c. f.1 (g.1 c))
-
-pub no-some : {A : Type 0} (x : A) → None ≡ Some x → ⊥
-no-some x e = cc
 
 pub pair-same : {A B : Type 0} (x y : A × B) → ((x.0 ≡ y.0) × (x.1 ≡ y.1)) ↔ (Some x ≡ Some y)
 pair-same {A} {B} x y = (

@@ -5,7 +5,6 @@ pub mod SegmentsPut
 pub mod Ranges
 pub mod Popping
 pub mod SegmentPlaces
-pub mod Refusals
 pub mod Forwarded
 pub mod BranchFaults
 pub mod TakenLists

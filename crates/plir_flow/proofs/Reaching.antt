@@ -1,12 +1,13 @@
 -- Paths of steps, and the worklist that follows them.
-use Rattle.std.proofs.Common.{◌≡◌, ◌↔◌, ℕ, zero, suc, ◌+◌, ◌<◌, ◌≤◌, List, [], ◌∷◌, ◌++◌, length, take, map, Some, None}
+use Rattle.std.proofs.Common.{◌≡◌, ◌↔◌, ℕ, suc, ◌+◌, ◌<◌, ◌≤◌, List, [], ◌∷◌, ◌++◌, length, take, map, Some}
 use Rattle.std.proofs.Common.{inl, inr, refl, sym, ap, subst, ◌∙◌, arith}
 use Rattle.std.specs.Prelude.{slice_get}
-use Rattle.std.proofs.lemmas.Option.{get_or_from_slice_get, same_Some}
+use Rattle.std.proofs.lemmas.Option.{get_or_from_slice_get}
 use Rattle.std.proofs.lemmas.List.{take_more, take_all, length-map}
 use Rattle.plir_core.specs.declared.ptr.Ptr.{Ptr}
 use Rattle.plir_core.specs.declared.ptr.Region.{Region as RegionKind}
 use Rattle.plir_store.specs.Members.{Has, Distinct}
+use Rattle.plir_store.specs.MemberLaws.{Has-at, map-Has}
 use Rattle.plir_flow.specs.Paths.{IsPath, LeadsTo}
 use Rattle.plir_flow.specs.declared.hops.Hop.{Hop}
 use Rattle.plir_flow.specs.Hops.{IsHop, IsReachedMore}
@@ -71,13 +72,9 @@ module _ {N : Type 0} where
       omega (arith, r.1.0)
 
 -- a hop leads to one of the regions that hops lead to
-at-has : (hops : List Hop) (i : ℕ) (h : Hop) → slice_get hops i ≡ Some h → Has (map (λ (g : Hop). g.to) hops) h.to
-at-has [] i h e = absurd (let f : None ≡ Some h = e in cc)
-at-has (g ∷ gs) zero h e = inl (ap (λ (z : Hop). z.to) (same_Some g h e))
-at-has (g ∷ gs) (suc i) h e = inr (at-has gs i h e)
-
 pub targets-have : (hops : List Hop) (a b : Ptr RegionKind) → IsHop hops a b → Has (map (λ (g : Hop). g.to) hops) b
-targets-have hops a b (i, (h, (at, f, t))) = subst (Has (map (λ (g : Hop). g.to) hops)) t (at-has hops i h at)
+targets-have hops a b (i, (h, (at, f, t))) =
+    subst (Has (map (λ (g : Hop). g.to) hops)) t (map-Has (λ (g : Hop). g.to) hops h (Has-at hops i h at))
 
 -- the worklist: what is reached, of which the first have been followed
 pub record IsReaching (hops : List Hop) (start : Ptr RegionKind) (xs : List (Ptr RegionKind)) (next : ℕ) : Type 0 where
@@ -104,7 +101,7 @@ module _ (hops : List Hop) (start : Ptr RegionKind) where
     sound =
         λ x h. elim ((m.all x).0 h) [
           | inl a ↦ w.sound x a
-          | inr s ↦ leads-on (IsHop hops) start r x (w.sound r (there xs next r here)) s
+          | inr s ↦ leads-on (IsHop hops) start r x (w.sound r (Has-at xs next r here)) s
         ];
     first = λ x s. (m.all x).1 (inl (w.first x s));
     closed = λ a x h s. elim (has-more (take next xs) r a (subst (λ l. Has l a) begins h)) [
@@ -115,11 +112,6 @@ module _ (hops : List Hop) (start : Ptr RegionKind) where
     within = omega (arith, m.longer);
   }
     where
-      there : (zs : List (Ptr RegionKind)) (i : ℕ) (q : Ptr RegionKind) → slice_get zs i ≡ Some q → Has zs q
-      there [] i q e = absurd (let f : None ≡ Some q = e in cc)
-      there (z ∷ zs) zero q e = inl (same_Some z q e)
-      there (z ∷ zs) (suc i) q e = inr (there zs i q e)
-
       begins : take (next + 1) ys ≡ take next xs ++ r ∷ []
       begins =
           m.begins (next + 1) (omega arith) ∙ take_more xs next r below

@@ -7,7 +7,7 @@ use Rattle.std.specs.List.{list_any, items_where_true, flat_map}
 use Rattle.std.specs.List.Retain.{IsFiltered, ReturnsInTurn}
 use Rattle.std.proofs.lemmas.Bool.Decides.{Decides-or, Decides-like}
 use Rattle.std.proofs.lemmas.List.{map-append, take_more, flat_map_more, take-append-le, take_all, length-append}
-use Rattle.std.proofs.lemmas.Bool.{cases_lt}
+use Rattle.std.proofs.lemmas.Bool.{cases_lt, both_ways, not-true, not-false}
 use Rattle.std.proofs.Math.Seq.{take-length}
 use Rattle.std.proofs.lemmas.List.Elements.{All-tail, All-head, All-cons, All-map, All-weaker}
 use Rattle.plir_store.specs.MemberLaws.{Has-append_left, Has-append_right, Has-append_cases}
@@ -91,13 +91,6 @@ module _ {A : Type 0} where
       ]
   those-has P (z ∷ xs) ys x (inr (n, r)) h = let k = those-has P xs ys x r h in (inr k.0, k.1)
 
-  pub those-all : (P : A → Type 0) (xs ys : List A) (x : A) → AreThose P xs ys → Has xs x → P x → Has ys x
-  those-all P [] ys x e h p = absurd h
-  those-all P (z ∷ xs) ys x (inl (q, (zs, (e, r)))) h p =
-      subst (λ l. Has l x) (sym e) (elim h [ inl i ↦ inl i | inr j ↦ inr (those-all P xs zs x r j p) ])
-  those-all P (z ∷ xs) ys x (inr (n, r)) h p =
-      elim h [ inl i ↦ absurd (n (subst P (sym i) p)) | inr j ↦ those-all P xs ys x r j p ]
-
   -- no element
   pub once-none : IsOnceEach {A = A} [] []
   once-none = record { once = tt; same = λ x. (λ h. h, λ h. h); order = none }
@@ -124,15 +117,10 @@ module _ {A : Type 0} where
     -- what an insertion says of whether the element is new
     pub fresh-says : (x : A) (ys : List A) (b : Bool) → b ≡ not (list_any (eq x) ys) → b ≡ true → Has ys x → ⊥
     fresh-says x ys b e t h =
-        let y : list_any (eq x) ys ≡ true = (any-has x ys).1 h in let n : b ≡ not true = e ∙ ap not y in
-        let f : false ≡ true = sym n ∙ t in cc
+        both_ways (list_any (eq x) ys) (not-true (list_any (eq x) ys) (sym e ∙ t)) ((any-has x ys).1 h)
 
     pub twice-says : (x : A) (ys : List A) (b : Bool) → b ≡ not (list_any (eq x) ys) → b ≡ false → Has ys x
-    twice-says x ys b e f = by (list_any (eq x) ys) refl
-      where
-        by : (v : Bool) → list_any (eq x) ys ≡ v → Has ys x
-        by true is = (any-has x ys).0 is
-        by false is = absurd (let n : b ≡ not false = e ∙ ap not is in let g : true ≡ false = sym n ∙ f in cc)
+    twice-says x ys b e f = (any-has x ys).0 (not-false (list_any (eq x) ys) (sym e ∙ f))
 
     -- one element more
     pub once-more : (xs ys : List A) (x : A) → IsOnceEach xs ys → IsOnceEach (xs ++ x ∷ []) (put_once eq ys x)
@@ -186,34 +174,18 @@ module _ {A : Type 0} where
               new;
         }
 
--- the list after an element was put, by what was told of it: nothing new came, or it stands last
-module _ {A : Type 0} (eq : A → A → Bool) (x : A) (ys zs : List A) (b : Bool) where
-  pub put-twice : b ≡ not (list_any (eq x) ys) → b ≡ false → zs ≡ ys → put_once eq ys x ≡ zs
-  put-twice e f is = by (list_any (eq x) ys) refl
-    where
-      by : (v : Bool) → list_any (eq x) ys ≡ v → put_once eq ys x ≡ zs
-      by true w = ap (λ v. cond v ys (ys ++ x ∷ [])) w ∙ sym is
-      by false w = absurd (let n : b ≡ not false = e ∙ ap not w in let g : true ≡ false = sym n ∙ f in cc)
-
-  pub put-fresh : b ≡ not (list_any (eq x) ys) → b ≡ true → zs ≡ ys ++ x ∷ [] → put_once eq ys x ≡ zs
-  put-fresh e t is = by (list_any (eq x) ys) refl
-    where
-      by : (v : Bool) → list_any (eq x) ys ≡ v → put_once eq ys x ≡ zs
-      by true w = absurd (let n : b ≡ not true = e ∙ ap not w in let y : false ≡ true = sym n ∙ t in cc)
-      by false w = ap (λ v. cond v ys (ys ++ x ∷ [])) w ∙ sym is
+-- the list after an element was put, by whether it was told to be new
+pub put-told : {A : Type 0} (x : A) (ys zs : List A) (there new : Bool) → new ≡ not there
+    → zs ≡ cond new (ys ++ x ∷ []) ys
+    → cond there ys (ys ++ x ∷ []) ≡ zs
+put-told x ys zs true new e is = sym (is ∙ ap (λ b. cond b (ys ++ x ∷ []) ys) e)
+put-told x ys zs false new e is = sym (is ∙ ap (λ b. cond b (ys ++ x ∷ []) ys) e)
 
 -- what stands on one element more
 pub joined-more : {A B : Type 0} (f : A → List B) (us : List B) (xs : List A) (i : ℕ) (x : A) → i < length xs
     → x ≡ get_or xs i x
     → (us ++ flat_map f (take i xs)) ++ f x ≡ us ++ flat_map f (take (i + 1) xs)
 joined-more f us xs i x h e = flat_map_more f us (take i xs) x ∙ ap (λ l. us ++ flat_map f l) (one-more xs i x h e)
-
-pub mapped-more : {A B : Type 0} (f : A → B) (us : List B) (xs : List A) (i : ℕ) (x : A) → i < length xs
-    → x ≡ get_or xs i x
-    → (us ++ map f (take i xs)) ++ f x ∷ [] ≡ us ++ map f (take (i + 1) xs)
-mapped-more f us xs i x h e =
-    append_assoc us (map f (take i xs)) (f x ∷ []) ∙ ap (λ l. us ++ l) (sym (map-append f (take i xs) (x ∷ [])))
-    ∙ ap (λ l. us ++ map f l) (one-more xs i x h e)
 
 -- what is taken of one element more
 module _ {A B : Type 0} (P : A → Type 0) (f : A → List B) (xs : List A) (i : ℕ) (x : A) (h : i < length xs)
@@ -264,11 +236,6 @@ module _ {A B : Type 0} (f : A → List B) (R : A → Type 0) (Q : B → Type 0)
 
 pub those-live : {A : Type 0} (P R : A → Type 0) (xs ys : List A) → All R xs → AreThose P xs ys → All R ys
 those-live P R xs ys r t = each-from-has R ys (λ x h. each-has R xs x r (those-has P xs ys x t h).0)
-
--- what is taken once of those that P holds for
-pub taken-of : {A B : Type 0} (P : A → Type 0) (f : A → List B) (xs those : List A) (ys : List B) → AreThose P xs those
-    → IsOnceEach (flat_map f those) ys → AreTakenOnce P f xs ys
-taken-of P f xs those ys t o = (those, (t, o))
 
 pub mapped-all : {A B : Type 0} (f : A → B) (R : A → Type 0) (Q : B → Type 0) → ((x : A) → R x → Q (f x))
     → (xs : List A) → All R xs → All Q (map f xs)

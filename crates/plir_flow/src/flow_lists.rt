@@ -1,5 +1,5 @@
 //! What flows on the edges of a list.
-ghost use Rattle.std.specs.Prelude.{◌≡◌, ◌↔◌, ◌++◌, IsTrue, IfOk, OnOk, map};
+ghost use Rattle.std.specs.Prelude.{◌≡◌, ◌↔◌, IsTrue, IfOk, map};
 ghost use Rattle.std.specs.List.{flat_map};
 ghost use Rattle.plir_flow.specs.Taken.{AreThose};
 ghost use Rattle.plir_flow.specs.RegionEdges.{IsInto, flows_on};
@@ -9,26 +9,13 @@ use plir_core::{Use, Value};
 use plir_data::Memory;
 use std::alloc::Global;
 
-// Puts what flows on an edge behind what did.
-fn add_flows(
-    all: &mut Vec<(Use<Value>, Value)>,
-    flows: &[(Use<Value>, Value)],
-) -> Result<(), Memory>
-    ensures { OnOk result (all.new.items ≡ all.old.items ++ flows.now) }
-{
-    for flow in flows {
-        all.push(*flow)?;
-    }
-    Ok(())
-}
-
 /// What flows on edges, in order.
 pub(crate) fn flows(alloc: Global, edges: &[RegionEdge]) -> Result<Vec<(Use<Value>, Value)>, Memory>
     ensures { IfOk result (λ fs. fs.items ≡ flat_map flows_on edges.now) }
 {
     let mut all = Vec::new(alloc);
     for edge in edges {
-        add_flows(&mut all, &edge.flows)?;
+        all.extend_from_slice(&edge.flows)?;
     }
     Ok(all)
 }

@@ -7,6 +7,7 @@ mod branches;
 mod calls;
 mod edge_ends;
 mod edge_lists;
+mod edge_parts;
 mod edge_refusals;
 mod edge_rule;
 mod flow_lists;

@@ -5,7 +5,7 @@ ghost use Rattle.plir_flow.specs.RegionRule.{SameReceivers, HaveOtherReceivers};
 ghost use Rattle.plir_flow.specs.EdgeVerdicts.{AreFirsts, target_region, first_place};
 
 use crate::edge_ends::{RegionEdge, RegionSuccessor};
-use crate::edge_lists::add_receivers;
+use crate::edge_parts::add_receivers;
 use crate::once::Once;
 use plir_core::{Ptr, Region, Use, Value};
 use plir_data::Memory;
@@ -65,8 +65,8 @@ pub(crate) fn keeps_receivers(
 ) -> Result<bool, Memory>
     requires below { place < length edges.now }
     requires firsts { AreFirsts edges.now place (first_place firsts.old) }
-    ensures yes { IfOk result (λ b. IsTrue b → AreFirsts edges.now (place + 1) (first_place firsts.new)) }
-    ensures no { IfOk result (λ b. (IsTrue b → ⊥) → HaveOtherReceivers edges.now) }
+    ensures { IfOk result (λ b. (IsTrue b → AreFirsts edges.now (place + 1) (first_place firsts.new)) ×
+        ((IsTrue b → ⊥) → HaveOtherReceivers edges.now)) }
 {
     let edge = &edges[place];
     let target = region_of(edge.to);

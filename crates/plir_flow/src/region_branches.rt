@@ -15,7 +15,8 @@ ghost use Rattle.plir_flow.specs.RegionEdges.{flows_on, reads_on, receivers_on, 
 ghost use Rattle.plir_flow.specs.RegionRule.{HasEdgeRule, IsEdgeRuleRefusal};
 
 use crate::edge_ends::{RegionBranchPoint, RegionEdge, RegionSuccessor};
-use crate::edge_lists::{keep_from, keep_to, reads, reads_in, receivers, regions_in};
+use crate::edge_lists::{keep_from, keep_to, taken, taken_in};
+use crate::edge_parts::{Reads, Receivers, Regions};
 use crate::edge_refusals::{as_edges_layout, verify_edges};
 use crate::flow_lists::{flows, keep_into, operands};
 use crate::hops::{is_among, reachable};
@@ -109,7 +110,7 @@ pub trait RegionBranchOpInterface<D: OpSet>: Op<D> {
         ensures live { IfOk result (λ us. All (IsUseLive ctx.now) us.items) }
     {
         let edges = self.edges_from(alloc, ctx, point)?;
-        reads(alloc, &edges)
+        taken::<Reads, _>(alloc, &edges)
     }
 
     /// The operands that are read on edges to a successor, each once.
@@ -125,7 +126,7 @@ pub trait RegionBranchOpInterface<D: OpSet>: Op<D> {
         ensures live { IfOk result (λ us. All (IsUseLive ctx.now) us.items) }
     {
         let edges = self.edges_to(alloc, ctx, successor)?;
-        reads(alloc, &edges)
+        taken::<Reads, _>(alloc, &edges)
     }
 
     /// The operands that are read on edges from the terminators in a region, each once.
@@ -142,7 +143,7 @@ pub trait RegionBranchOpInterface<D: OpSet>: Op<D> {
         ensures live { IfOk result (λ us. All (IsUseLive ctx.now) us.items) }
     {
         let edges = self.region_edges(alloc, ctx)?;
-        reads_in(alloc, ctx, &edges, region)
+        taken_in::<D, Reads, _>(alloc, ctx, &edges, region)
     }
 
     /// What flows on all edges: operands, each with the value that receives it.
@@ -174,7 +175,7 @@ pub trait RegionBranchOpInterface<D: OpSet>: Op<D> {
         ensures live { IfOk result (λ vs. All (IsValueLive ctx.now) vs.items) }
     {
         let edges = self.edges_to(alloc, ctx, successor)?;
-        receivers(alloc, &edges)
+        taken::<Receivers, _>(alloc, &edges)
     }
 
     /// The operands that flow into a value.
@@ -207,7 +208,7 @@ pub trait RegionBranchOpInterface<D: OpSet>: Op<D> {
         ensures live { IfOk result (λ rs. All (λ r. IsLive ctx.now (IRNode.Region r)) rs.items) }
     {
         let edges = self.region_edges(alloc, ctx)?;
-        regions_in(alloc, ctx, &edges, region)
+        taken_in::<D, Regions, _>(alloc, ctx, &edges, region)
     }
     /// The regions that paths of one edge or more between regions lead to from a region, each once; the region itself
     /// is among them only if it is on a cycle. Their order is open. What this takes is linear in the regions and edges.

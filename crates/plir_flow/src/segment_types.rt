@@ -11,8 +11,8 @@ ghost use Rattle.plir_flow.specs.SegmentTypes.{segment_types, IsFirstFailingOper
 ghost use Rattle.plir_flow.specs.SegmentTypes.{HasSegmentNOfType, HasSegmentNImplsTy, IsSegmentNOfTypeRefusal};
 ghost use Rattle.plir_flow.specs.SegmentTypes.{IsSegmentNImplsTyRefusal};
 
-use crate::segment_sizes::{count_of, place_among, size_of, start_of};
-use crate::segments::OperandSegmentInterface;
+use crate::segment_sizes::count_of;
+use crate::segments::{OperandSegmentInterface, range_of};
 use plir_core::{Context, Operation, Ptr};
 use plir_data::{OpSet, TypeInterfaceMark, TypeMark, VerifyErr, type_text};
 use plir_iface::{
@@ -47,9 +47,8 @@ fn find_misfit<D: OpSet, Q: TypeTest<D>>(
     ensures below { IfSome result (λ p. p < num_operands ctx.now op) }
     ensures whole { IsWellFormed D.attr_handles ctx.now }
 {
-    let size = size_of(ctx, op, seg) as usize;
-    let (start, end) = (start_of(ctx, op, seg), place_among(ctx, op, seg, size));
-    first_failing::<D, Q>(ctx, op, Side::Operands, start, end)
+    let range = range_of(ctx, op, seg);
+    first_failing::<D, Q>(ctx, op, Side::Operands, range.start, range.end)
 }
 
 // Accepts exactly where there is a segment at an index, and all its types are a `T`.

@@ -108,8 +108,8 @@ fn flatten_segments(
     Ok((values, OperandSegmentSizesAttr(sizes)))
 }
 
-// The indices of the operands of a segment.
-fn range_of<D: OpSet>(ctx: &Context<D>, op: Ptr<Operation>, seg: usize) -> Range<usize>
+/// The indices of the operands of a segment.
+pub(crate) fn range_of<D: OpSet>(ctx: &Context<D>, op: Ptr<Operation>, seg: usize) -> Range<usize>
     requires live { IsLive ctx.now (IRNode.Operation op) }
     requires segmented { IsSegmented ctx.now op }
     requires below { seg < num_segments ctx.now op }

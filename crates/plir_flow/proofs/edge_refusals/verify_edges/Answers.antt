@@ -1,4 +1,4 @@
-use Rattle.plir_flow.proofs.Refusals.{aside-weaker}
+use Rattle.plir_iface.specs.VerdictLaws.{aside-weaker}
 use Rattle.plir_flow.proofs.edge_refusals.verify_edges.Goals as goal
 
 pub returns-in-Ok-Some-clause-refused : goal.returns-in-Ok-Some-clause-refused

@@ -1,9 +1,10 @@
 use Rattle.std.proofs.Common.{◌<◌, ◌↔◌, subst, arith, take, length}
+use Rattle.std.proofs.Math.Logic.Iff
 use Rattle.std.proofs.lemmas.List.{take_all}
 use Rattle.plir_flow.specs.RegionEdges.{IsStep}
 use Rattle.plir_flow.specs.Hops.{IsHop}
 use Rattle.plir_flow.proofs.TakenLists.{one-more}
-use Rattle.plir_flow.proofs.Hopping.{steps-more, sum-like, through}
+use Rattle.plir_flow.proofs.Hopping.{steps-more, sum-like}
 use Rattle.plir_flow.proofs.hops.add_edges.Goals as goal
 
 pub loop-edge-preserved : goal.loop-edge-preserved
@@ -17,7 +18,7 @@ loop-edge-preserved g c =
       done.heads,
       λ a b. subst (λ l. IsHop c.add_edge.new.hops.items a b ↔ IsStep s l a b)
           (one-more es i c.edge-item.result below c.edge-item.is)
-          (through (done.more a b) (through (sum-like (c.loop-edge.invariant.2 a b) (λ h. h, λ h. h))
+          (Iff.trans (done.more a b) (Iff.trans (sum-like (c.loop-edge.invariant.2 a b) (λ h. h, λ h. h))
           (steps-more s (take i es) c.edge-item.result a b))),
     )
 

@@ -1,8 +1,8 @@
 use Rattle.std.proofs.Common.{◌≡◌, ◌∙◌, ap, true, false}
+use Rattle.std.proofs.Math.Logic.Iff
 use Rattle.std.proofs.lemmas.Result.{IfOk-weaker}
 use Rattle.plir_flow.specs.RegionEdges.{flows_on}
 use Rattle.plir_flow.proofs.EdgeRules.{within-at, same-if, same-not}
-use Rattle.plir_flow.proofs.Hopping.{through}
 use Rattle.plir_flow.proofs.receiver_sets.have_same_receivers.Goals as goal
 
 pub returns-then-not-branch : goal.returns-then-not-branch
@@ -29,4 +29,4 @@ returns c =
     let gs = c.deref-3.ensures.value ∙ ap flows_on c.other.view_is in
     let ps = c.deref-4.ensures.value ∙ ap flows_on c.first.view_is in
     IfOk-weaker c.receive_among-2.result _ _
-    (λ v w. through (within-at v _ _ _ _ gs ps w) (same-if d e (reported.0 is))) c.receive_among-2.ensures
+    (λ v w. Iff.trans (within-at v _ _ _ _ gs ps w) (same-if d e (reported.0 is))) c.receive_among-2.ensures

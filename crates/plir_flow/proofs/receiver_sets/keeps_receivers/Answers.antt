@@ -1,4 +1,4 @@
-use Rattle.std.proofs.Common.{rules, ◌≡◌, ◌<◌, ◌∙◌, ap, sym, subst, length, cond, Some, None}
+use Rattle.std.proofs.Common.{rules, ◌≡◌, ◌<◌, ◌∙◌, ap, refl, sym, subst, length, cond, Some, None}
 use Rattle.std.specs.HashMap.{get}
 use Rattle.std.specs.Option.{option_eq}
 use Rattle.plir_flow.specs.Hops.{same_region}
@@ -27,8 +27,8 @@ offset_bounds-edges-first c =
     slice_get_within c.args.edges.now c.in-Some.first r.0 r.1.0 in
     search rules
 
-pub returns-in-Some-clause-yes : goal.returns-in-Some-clause-yes
-returns-in-Some-clause-yes c =
+pub returns-in-Some : goal.returns-in-Some
+returns-in-Some c =
     let es = c.args.edges.now in
     let head = first_place c.args.firsts.now in
     let first = c.in-Some.first in
@@ -43,42 +43,27 @@ returns-in-Some-clause-yes c =
     slice_get-get_or es first d (slice_get_within es first r.0 r.1.0)
     ∙ ap (λ x. Some x) (sym c.index-edges-first.is) in
     let is = subst (λ (e : EdgeView). head e.to ≡ Some first) c.edge.view_is reported in
-    IfOk-weaker c.have_same_receivers.result _ _
-    (λ b w t. firsts-kept es c.args.place head c.requires.firsts edge here first d is at (w.0 t))
-    c.have_same_receivers.ensures
+    IfOk-weaker c.have_same_receivers.result _ _ (λ b w. (
+      λ t. firsts-kept es c.args.place head c.requires.firsts edge here first d is at (w.0 t),
+      λ n. firsts-broken es c.args.place head c.requires.firsts edge here first d is at (λ same. n (w.1 same)),
+    )) c.have_same_receivers.ensures
 
-pub returns-in-Some-clause-no : goal.returns-in-Some-clause-no
-returns-in-Some-clause-no c =
-    let es = c.args.edges.now in
-    let head = first_place c.args.firsts.now in
-    let first = c.in-Some.first in
-    let reported =
-    ap (get (option_eq same_region) c.args.firsts.now) (sym c.region_of-target.ensures)
-    ∙ sym (c.in-Some.ensures ∙ c.get.ensures.value) in
-    let r = c.requires.firsts.heads c.edge.inside.to first reported in
-    let edge = c.index-edges-place.result in
-    let here = slice_get-get_or es c.args.place edge c.requires.below ∙ ap (λ x. Some x) (sym c.index-edges-place.is) in
-    let d = c.index-edges-first.result in
-    let at =
-    slice_get-get_or es first d (slice_get_within es first r.0 r.1.0)
-    ∙ ap (λ x. Some x) (sym c.index-edges-first.is) in
-    let is = subst (λ (e : EdgeView). head e.to ≡ Some first) c.edge.view_is reported in
-    IfOk-weaker c.have_same_receivers.result _ _
-    (λ b w n. firsts-broken es c.args.place head c.requires.firsts edge here first d is at (λ same. n (w.1 same)))
-    c.have_same_receivers.ensures
-
-pub returns-in_ok-insert-in-None-clause-yes : goal.returns-in_ok-insert-in-None-clause-yes
-returns-in_ok-insert-in-None-clause-yes c = λ is.
-    let es = c.args.edges.now in
-    let head = first_place c.args.firsts.now in
-    let edge = c.index-edges-place.result in
-    let here = slice_get-get_or es c.args.place edge c.requires.below ∙ ap (λ x. Some x) (sym c.index-edges-place.is) in
-    let absent =
-    subst (λ (e : EdgeView). head e.to ≡ None) c.edge.view_is
-    (ap (get (option_eq same_region) c.args.firsts.now) (sym c.region_of-target.ensures)
-    ∙ sym (c.in-None.ensures ∙ c.get.ensures.value)) in
-    firsts-new es c.args.place head c.requires.firsts edge here absent (first_place c.insert.new.self)
-    (λ t. c.in_ok-insert-in-None.ensures.updates.0 (target_region t)
-    ∙ ap (λ k. cond (option_eq same_region k (target_region t)) (Some c.args.place) (head t))
-    (c.region_of-target.ensures ∙ ap (λ (e : EdgeView). target_region e.to) c.edge.view_is)
-    ∙ ap (λ b. cond b (Some c.args.place) (head t)) (target-same edge.to t))
+pub returns-in_ok-insert-in-None : goal.returns-in_ok-insert-in-None
+returns-in_ok-insert-in-None c = (
+  λ is.
+      let es = c.args.edges.now in
+      let head = first_place c.args.firsts.now in
+      let edge = c.index-edges-place.result in
+      let here =
+      slice_get-get_or es c.args.place edge c.requires.below ∙ ap (λ x. Some x) (sym c.index-edges-place.is) in
+      let absent =
+      subst (λ (e : EdgeView). head e.to ≡ None) c.edge.view_is
+      (ap (get (option_eq same_region) c.args.firsts.now) (sym c.region_of-target.ensures)
+      ∙ sym (c.in-None.ensures ∙ c.get.ensures.value)) in
+      firsts-new es c.args.place head c.requires.firsts edge here absent (first_place c.insert.new.self)
+      (λ t. c.in_ok-insert-in-None.ensures.updates.0 (target_region t)
+      ∙ ap (λ k. cond (option_eq same_region k (target_region t)) (Some c.args.place) (head t))
+      (c.region_of-target.ensures ∙ ap (λ (e : EdgeView). target_region e.to) c.edge.view_is)
+      ∙ ap (λ b. cond b (Some c.args.place) (head t)) (target-same edge.to t)),
+  λ n. absurd (n refl),
+)

@@ -1,7 +1,7 @@
 use Rattle.std.proofs.Common.{[], refl, sym, ap, ◌∙◌, arith}
 use Rattle.std.specs.Option.{option_map_or, option_and_then}
 use Rattle.plir_data.specs.Types.{type_at, type_id}
-use Rattle.plir_flow.proofs.Refusals.{refusal-weaker}
+use Rattle.plir_iface.specs.VerdictLaws.{refusal-weaker}
 use Rattle.plir_flow.proofs.segment_types.verify_impls.Goals as goal
 
 pub returns-clause-refused : goal.returns-clause-refused

@@ -1,7 +1,7 @@
 use Rattle.std.proofs.Common.{[], sym, ap, ◌∙◌, arith}
 use Rattle.std.specs.Option.{option_map_or}
 use Rattle.plir_data.specs.TypeText.{type_text}
-use Rattle.plir_flow.proofs.Refusals.{refusal-aside}
+use Rattle.plir_iface.specs.VerdictLaws.{refusal-aside}
 use Rattle.plir_flow.proofs.segment_types.verify_kind.Goals as goal
 
 pub returns-clause-refused : goal.returns-clause-refused

@@ -1,7 +1,7 @@
 use Rattle.std.proofs.Common.{◌≡◌, inr}
 use Rattle.plir_data.specs.declared.location.VerifyErr.TheVariants.{Memory}
 use Rattle.plir_flow.proofs.BranchFaults.{reported}
-use Rattle.plir_flow.proofs.Refusals.{aside-weaker}
+use Rattle.plir_iface.specs.VerdictLaws.{aside-weaker}
 use Rattle.plir_flow.proofs.branches.BranchOpInterface.verify.Goals as goal
 
 pub returns-in-Some-clause-refused : goal.returns-in-Some-clause-refused

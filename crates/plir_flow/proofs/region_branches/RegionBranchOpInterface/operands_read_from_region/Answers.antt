@@ -10,5 +10,5 @@ returns-clause-live g c =
     let s = c.args.ctx.now in
     let all =
     subst (AreEdgesLive s) (sym (c.deref.ensures.value ∙ c.in_ok-edges.ensures.value)) c.in_ok-edges.ensures.live in
-    IfOk-weaker c.reads_in.result _ _ (λ us o. taken-all reads_on (IsEdgeLive s) (IsUseLive s) (reads-live s)
-    (IsFromRegion s c.args.region) c.deref.result.now us.items all o) c.reads_in.ensures.taken
+    IfOk-weaker c.taken_in.result _ _ (λ us o. taken-all reads_on (IsEdgeLive s) (IsUseLive s) (reads-live s)
+    (IsFromRegion s c.args.region) c.deref.result.now us.items all o) c.taken_in.ensures.taken

@@ -9,6 +9,6 @@ pub returns-clause-live : goal.returns-clause-live
 returns-clause-live g c =
     let s = c.args.ctx.now in
     let all = subst (AreEdgesLive s) (sym c.deref.ensures.value) c.in_ok-edges.ensures.live in
-    IfOk-weaker c.reads.result _ _
+    IfOk-weaker c.taken.result _ _
     (λ us o. once-all reads_on (IsEdgeLive s) (IsUseLive s) (reads-live s) c.deref.result.now us.items all o)
-    c.reads.ensures
+    c.taken.ensures

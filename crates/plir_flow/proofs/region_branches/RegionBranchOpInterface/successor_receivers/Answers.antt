@@ -10,6 +10,6 @@ pub returns-clause-live : goal.returns-clause-live
 returns-clause-live g c =
     let s = c.args.ctx.now in
     let all = subst (AreEdgesLive s) (sym c.deref.ensures.value) c.in_ok-edges.ensures.live in
-    IfOk-weaker c.receivers.result _ _ (λ us o.
+    IfOk-weaker c.taken.result _ _ (λ us o.
     once-all receivers_on (IsEdgeLive s) (IsValueLive s) (receivers-live s) c.deref.result.now us.items all o)
-    c.receivers.ensures
+    c.taken.ensures

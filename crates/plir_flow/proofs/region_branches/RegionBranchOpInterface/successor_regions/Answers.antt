@@ -12,5 +12,5 @@ returns-clause-live g c =
     let s = c.args.ctx.now in
     let all =
     subst (AreEdgesLive s) (sym (c.deref.ensures.value ∙ c.in_ok-edges.ensures.value)) c.in_ok-edges.ensures.live in
-    IfOk-weaker c.regions_in.result _ _ (λ us o. taken-all regions_on (IsEdgeLive s) (λ r. IsLive s (Region r))
-    (regions-live s) (IsFromRegion s c.args.region) c.deref.result.now us.items all o) c.regions_in.ensures.taken
+    IfOk-weaker c.taken_in.result _ _ (λ us o. taken-all regions_on (IsEdgeLive s) (λ r. IsLive s (Region r))
+    (regions-live s) (IsFromRegion s c.args.region) c.deref.result.now us.items all o) c.taken_in.ensures.taken

@@ -3,7 +3,7 @@ use Rattle.std.proofs.lemmas.List.{take_all}
 use Rattle.plir_flow.specs.Taken.{IsOnceEach}
 use Rattle.plir_flow.specs.RegionEdges.{Flow}
 use Rattle.plir_flow.proofs.TakenLists.{mapped-at}
-use Rattle.plir_flow.proofs.edge_lists.add_receivers.Goals as goal
+use Rattle.plir_flow.proofs.edge_parts.add_receivers.Goals as goal
 
 pub loop-flow-preserved : goal.loop-flow-preserved
 loop-flow-preserved c vs w =

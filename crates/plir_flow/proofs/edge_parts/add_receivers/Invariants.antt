@@ -2,7 +2,7 @@ use Rattle.std.proofs.Common.{List, ◌++◌, take, map}
 use Rattle.plir_core.specs.declared.value.Value.{Value}
 use Rattle.plir_flow.specs.Taken.{IsOnceEach}
 use Rattle.plir_flow.specs.RegionEdges.{Flow}
-use Rattle.plir_flow.proofs.edge_lists.add_receivers.Given as goal
+use Rattle.plir_flow.proofs.edge_parts.add_receivers.Given as goal
 
 abbrev pub invariant-loop-flow : goal.invariant-loop-flow
 invariant-loop-flow l =
