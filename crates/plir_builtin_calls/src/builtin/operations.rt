@@ -14,55 +14,18 @@ use plir_data::{AttrObj, FunctionType, Identifier, IntegerAttr, OpSet, TypeHandl
 use plir_iface::Op;
 use plir_scripts::{Bench, Line, Stop};
 
-/// What a line asks of builtin operations.
-#[derive(Clone, Copy)]
-pub enum OperationCall {
-    /// `module NAME` makes one.
-    Module,
-    /// `func NAME` makes one.
-    Func,
-    /// `constant TEXT` makes one.
-    Constant,
-    /// `materialize TEXT` makes one of an attribute.
-    Materialize,
-    /// `forward-ref` makes one.
-    ForwardRef,
-    /// `typed OP` tells whether a function has one type, however it is asked for.
-    Typed,
-    /// `rule OP` tells whether its own rule holds.
-    Rule,
-}
-
-impl OperationCall {
-    /// What this word asks of builtin operations, if it does.
-    pub fn of(word: &str) -> Option<OperationCall> {
-        match word {
-            "module" => Some(OperationCall::Module),
-            "func" => Some(OperationCall::Func),
-            "constant" => Some(OperationCall::Constant),
-            "materialize" => Some(OperationCall::Materialize),
-            "forward-ref" => Some(OperationCall::ForwardRef),
-            "typed" => Some(OperationCall::Typed),
-            "rule" => Some(OperationCall::Rule),
-            _ => None,
-        }
-    }
-}
-
-/// Does what a line asks of builtin operations.
-pub fn operation<D: OpSet>(
-    bench: &mut Bench<D>,
-    call: OperationCall,
-    line: Line<'_>,
-) -> Result<(), Stop> {
-    match call {
-        OperationCall::Module => make_module(bench, line.first),
-        OperationCall::Func => make_func(bench, line),
-        OperationCall::Constant => make_constant(bench, line),
-        OperationCall::Materialize => materialize(bench, line),
-        OperationCall::ForwardRef => make_forward_ref(bench),
-        OperationCall::Typed => tell_typed(bench, line),
-        OperationCall::Rule => verify(bench, line),
+/// Does what a line says of builtin operations: `module NAME`, `func NAME`, `constant TEXT`, `materialize TEXT` and
+/// `forward-ref` make one, `rule OP` tells whether its own rule holds, and `typed OP` whether a function has one type,
+/// however it is asked for.
+pub fn operation<D: OpSet>(bench: &mut Bench<D>, line: Line<'_>) -> Result<(), Stop> {
+    match line.command {
+        "module" => make_module(bench, line.first),
+        "func" => make_func(bench, line),
+        "constant" => make_constant(bench, line),
+        "materialize" => materialize(bench, line),
+        "forward-ref" => make_forward_ref(bench),
+        "typed" => tell_typed(bench, line),
+        _ => verify(bench, line),
     }
 }
 

@@ -7,60 +7,19 @@ ghost use Rattle.plir_core.specs.declared.ptr.IRNode.{IRNode as AnyNode};
 
 use crate::builtin::around::{scan, symbol_name};
 use crate::builtin::operations::make_module;
-use crate::builtin::tables::{
-    EditWord, Reach, edit_of, look_up_through, point_of, put_refused, put_reply,
-};
+use crate::builtin::tables::{edit_of, point_of, put_refused, put_reply};
 use plir_builtin::{
     ATTR_KEY_SYM_NAME, SymbolEditErr, SymbolTable, SymbolTableCollection, SymbolTableErr,
 };
 use plir_core::{Context, IRNode, OpInsertionPoint, Operation, Ptr};
-use plir_data::{AttrObj, OpSet};
+use plir_data::{AttrObj, Identifier, OpSet};
 use plir_scripts::{Bench, Line, Made, Stop, grant_memory, refuse_memory, split_word};
 
-/// A call through the collection.
-#[derive(Clone, Copy)]
-enum SessionCall {
-    /// `module NAME` makes a module.
-    Module,
-    /// `refuse`: all memory is refused from then on.
-    Refuse,
-    /// `grant`: memory is granted again.
-    Grant,
-    /// `list EDIT, EDIT, ..` makes edits in one list.
-    List,
-    /// `lookup OP NAME` looks a name up in the table of an operation, `nearest OP NAME` in the nearest one.
-    LookUp(Reach),
-    /// A call on a table and a symbol.
-    OnSymbol(OnSymbol),
-}
-
-/// A call on the table of an operation and a symbol.
-#[derive(Clone, Copy)]
-enum OnSymbol {
-    /// `find OP OP` looks the name of the symbol up.
-    Find,
-    /// `insert OP OP`, with `before OP` behind it or not, `remove OP OP` or `erase OP OP`.
-    Edit(EditWord),
-}
-
-impl SessionCall {
-    // The call that this word says.
-    fn of(word: &str) -> SessionCall {
-        match word {
-            "module" => SessionCall::Module,
-            "refuse" => SessionCall::Refuse,
-            "grant" => SessionCall::Grant,
-            "list" => SessionCall::List,
-            "lookup" => SessionCall::LookUp(Reach::Own),
-            "nearest" => SessionCall::LookUp(Reach::Nearest),
-            "find" => SessionCall::OnSymbol(OnSymbol::Find),
-            _ => SessionCall::OnSymbol(OnSymbol::Edit(EditWord::of(word))),
-        }
-    }
-}
-
-/// Makes the calls of `session CALL; CALL; ..` through one collection. Where a call is refused for want of memory, all
-/// tables are compared with their bodies, and it is made once more.
+/// Makes the calls of `session CALL; CALL; ..` through one collection: `insert OP OP`, with `before OP` behind it or
+/// not, `remove OP OP` and `erase OP OP` through the table of the first operation, `list EDIT, EDIT, ..` in one list,
+/// `lookup OP NAME` in the table of one, `nearest OP NAME` in the nearest one, `find OP OP` in the table of the first
+/// by the name of the second; `module NAME` makes a module; between `refuse` and `grant` all memory is refused. Where a
+/// call is refused for want of memory, all tables are compared with their bodies, and it is made once more.
 pub fn session<D: OpSet>(bench: &mut Bench<D>, line: Line<'_>) -> Result<(), Stop> {
     let mut tables = SymbolTableCollection::new(bench.alloc);
     for words in line.text.split("; ") {
@@ -80,58 +39,25 @@ fn call<D: OpSet>(
 ) -> Result<(), Stop> {
     let (command, rest) = split_word(words);
     let (first, second) = split_word(rest);
-    match SessionCall::of(command) {
-        SessionCall::Module => make_module(bench, first),
-        SessionCall::Refuse => refuse_memory(bench.alloc),
-        SessionCall::Grant => grant_memory(bench.alloc),
-        SessionCall::List => make_list(bench, tables, rest),
-        SessionCall::LookUp(reach) => look_up(bench, tables, reach, first, second),
-        SessionCall::OnSymbol(call) => call_on_symbol(bench, tables, call, first, second),
+    match command {
+        "module" => return make_module(bench, first),
+        "refuse" => return refuse_memory(bench.alloc),
+        "grant" => return grant_memory(bench.alloc),
+        "list" => return make_list(bench, tables, rest),
+        _ => {}
     }
-}
-
-fn look_up<D: OpSet>(
-    bench: &mut Bench<D>,
-    tables: &mut SymbolTableCollection,
-    reach: Reach,
-    word: &str,
-    name: &str,
-) -> Result<(), Stop> {
-    let op = bench.made.op(&bench.ctx, word)?;
-    look_up_through(bench, tables, reach, op, name)
-}
-
-// A call on the table of the operation that a word names, and the symbol that others name.
-fn call_on_symbol<D: OpSet>(
-    bench: &mut Bench<D>,
-    tables: &mut SymbolTableCollection,
-    call: OnSymbol,
-    word: &str,
-    words: &str,
-) -> Result<(), Stop> {
-    let (second, point) = split_word(words);
-    let op = bench.made.op(&bench.ctx, word)?;
+    let op = bench.made.op(&bench.ctx, first)?;
+    if command == "lookup" || command == "nearest" {
+        return look_up(bench, tables, command, op, second);
+    }
+    let (second, point) = split_word(second);
     let symbol = bench.made.op(&bench.ctx, second)?;
-    match call {
-        OnSymbol::Find => find(bench, tables, op, symbol),
-        OnSymbol::Edit(word) => edit_at(bench, tables, word, op, symbol, point),
+    if command == "find" {
+        return find(bench, tables, op, symbol);
     }
-}
-
-// Makes an edit at the point that some words say, and writes what it was answered.
-fn edit_at<D: OpSet>(
-    bench: &mut Bench<D>,
-    tables: &mut SymbolTableCollection,
-    word: EditWord,
-    op: Ptr<Operation>,
-    symbol: Ptr<Operation>,
-    point: &str,
-) -> Result<(), Stop>
-    requires { IsLive bench.old.ctx (AnyNode.Operation op) }
-{
     let point = live_point(&bench.ctx, &bench.made, point)?;
     let edited = match tables.get_symbol_table(&bench.ctx, op) {
-        Ok(table) => edit(&mut bench.ctx, table, word, symbol, point)?,
+        Ok(table) => edit(&mut bench.ctx, table, command, symbol, point)?,
         Err(refused) => Err(refused),
     };
     match edited {
@@ -248,6 +174,28 @@ fn live_point<D: OpSet>(
     }
 }
 
+fn look_up<D: OpSet>(
+    bench: &mut Bench<D>,
+    tables: &mut SymbolTableCollection,
+    command: &str,
+    op: Ptr<Operation>,
+    name: &str,
+) -> Result<(), Stop>
+    requires { IsLive bench.old.ctx (AnyNode.Operation op) }
+{
+    let name = Identifier::try_new(bench.alloc, name)?;
+    let found = if command == "lookup" {
+        tables.lookup_symbol_in_table(&bench.ctx, op, &name)
+    } else {
+        tables.lookup_symbol_in_nearest_table(&bench.ctx, op, &name)
+    };
+    match found {
+        Ok(op) => bench.made.put_op(&mut bench.answer, op),
+        Err(refused) => put_refused(&mut bench.answer, refused)?,
+    }
+    Ok(())
+}
+
 // Looks the name of an operation up in the table of another one, which is cached.
 fn find<D: OpSet>(
     bench: &mut Bench<D>,
@@ -276,7 +224,7 @@ fn find<D: OpSet>(
 fn edit<D: OpSet>(
     ctx: &mut Context<D>,
     table: &mut SymbolTable,
-    word: EditWord,
+    command: &str,
     op: Ptr<Operation>,
     point: Option<OpInsertionPoint>,
 ) -> Result<Result<(), SymbolTableErr>, Stop>
@@ -286,12 +234,12 @@ fn edit<D: OpSet>(
     if !op.is_live(ctx) || !table.has_body(ctx) {
         return Err(Stop::Refused);
     }
-    match word {
-        EditWord::Insert if !IRNode::Operation(op).is_ancestor(ctx, over) => Ok(table.insert(
+    match command {
+        "insert" if !IRNode::Operation(op).is_ancestor(ctx, over) => Ok(table.insert(
             ctx, op, point,
         )),
-        EditWord::Remove => Ok(table.remove(ctx, op)),
-        EditWord::Erase if is_unused(ctx, op) => Ok(table.erase(ctx, op)),
+        "remove" => Ok(table.remove(ctx, op)),
+        "erase" if is_unused(ctx, op) => Ok(table.erase(ctx, op)),
         _ => Err(Stop::Refused),
     }
 }

@@ -13,73 +13,31 @@ use plir_scripts::{Answer, Bench, Line, Stop};
 use std::alloc::Global;
 use std::fmt::Display;
 
-/// What a line asks of symbols.
-#[derive(Clone, Copy)]
-pub enum SymbolCall {
-    /// What it asks of any operation.
-    OfAny(AnyCall),
-    /// `declared OP` verifies all that a builtin operation declares.
-    VerifyDeclared,
-    /// `past OP OP NAME` renames a symbol past its table.
-    RenamePast,
-}
-
-/// What a line asks of any operation as a symbol, or as a table of symbols.
-#[derive(Clone, Copy)]
-pub enum AnyCall {
-    /// `symbol OP NAME` names one.
-    Rename,
-    /// `name OP` tells the name.
-    TellName,
-    /// `scan OP NAME` seeks a symbol in the body of an operation.
-    Scan,
-    /// `right OP` verifies a table.
-    VerifyTable,
-}
-
-impl SymbolCall {
-    /// What this word asks of symbols, if it does.
-    pub fn of(word: &str) -> Option<SymbolCall> {
-        match word {
-            "symbol" => Some(SymbolCall::OfAny(AnyCall::Rename)),
-            "name" => Some(SymbolCall::OfAny(AnyCall::TellName)),
-            "scan" => Some(SymbolCall::OfAny(AnyCall::Scan)),
-            "right" => Some(SymbolCall::OfAny(AnyCall::VerifyTable)),
-            "declared" => Some(SymbolCall::VerifyDeclared),
-            "past" => Some(SymbolCall::RenamePast),
-            _ => None,
-        }
-    }
-}
-
-/// Does what a line asks of symbols.
-pub fn symbol<D: SymbolUserSet>(
-    bench: &mut Bench<D>,
-    call: SymbolCall,
-    line: Line<'_>,
-) -> Result<(), Stop> {
+/// Does what a line says of symbols: `symbol OP NAME` names one, `name OP` tells the name, `scan OP NAME` seeks a
+/// symbol in the body of an operation, `right OP` verifies a table, `declared OP` all that a builtin operation
+/// declares, and `past OP OP NAME` renames a symbol past its table.
+pub fn symbol<D: SymbolUserSet>(bench: &mut Bench<D>, line: Line<'_>) -> Result<(), Stop> {
     let op = bench.made.op(&bench.ctx, line.first)?;
-    match call {
-        SymbolCall::OfAny(call) => call_any(bench, call, &Around { op }, line),
-        SymbolCall::VerifyDeclared => verify_declared(bench, op),
-        SymbolCall::RenamePast => rename_past(bench, op, line),
+    match line.command {
+        "declared" => verify_declared(bench, op),
+        "past" => rename_past(bench, op, line),
+        _ => call_any(bench, &Around { op }, line),
     }
 }
 
-// Does what a line asks of any operation.
+// Does what a line says of any operation.
 fn call_any<D: SymbolUserSet, O: SymbolOpInterface<D> + SymbolTableInterface<D>>(
     bench: &mut Bench<D>,
-    call: AnyCall,
     op: &O,
     line: Line<'_>,
 ) -> Result<(), Stop>
     requires { IsLive bench.old.ctx (AnyNode.Operation (O.pointer op.now)) }
 {
-    match call {
-        AnyCall::Rename => rename(bench, op, line.second),
-        AnyCall::TellName => tell_name(bench, op),
-        AnyCall::Scan => scan(bench, op, line.second),
-        AnyCall::VerifyTable => verify_table(bench, op),
+    match line.command {
+        "symbol" => rename(bench, op, line.second),
+        "name" => tell_name(bench, op),
+        "scan" => scan(bench, op, line.second),
+        _ => verify_table(bench, op),
     }
 }
 

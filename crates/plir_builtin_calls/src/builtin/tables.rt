@@ -1,6 +1,5 @@
 //! The calls on symbol tables.
 ghost use Rattle.std.specs.Prelude.{◌≡◌, true, length};
-ghost use Rattle.plir_core.specs.ContextView.{IsLive};
 ghost use Rattle.plir_core.specs.declared.ptr.IRNode.{IRNode as AnyNode};
 
 use plir_builtin::{
@@ -13,101 +12,16 @@ use plir_scripts::{Answer, Bench, Line, Made, Stop, split_word};
 use plir_walk::interruptible::{WalkResult, walk_advance, walk_break};
 use std::alloc::Global;
 
-/// What a line asks of tables.
-#[derive(Clone, Copy)]
-pub enum TableCall {
-    /// `table OP` makes one.
-    Make,
-    /// `lookup OP NAME` and `nearest-lookup OP NAME` look a symbol up.
-    LookUp(Reach),
-    /// `nearest OP` finds the nearest one.
-    FindNearest,
-    /// `edits EDIT; EDIT; ..` makes edits.
-    Edit,
-    /// `hand OP [OP]` walks the table of an operation and breaks the walk at another one.
-    Hand,
-}
-
-/// In which table a symbol is looked up.
-#[derive(Clone, Copy)]
-pub enum Reach {
-    /// In that of an operation.
-    Own,
-    /// In the nearest one.
-    Nearest,
-}
-
-/// An edit of a table.
-#[derive(Clone, Copy)]
-pub enum EditWord {
-    /// `insert`.
-    Insert,
-    /// `remove`.
-    Remove,
-    /// `erase`.
-    Erase,
-    /// Another word, which is refused.
-    Unknown,
-}
-
-/// Where a symbol is inserted.
-#[derive(Clone, Copy)]
-enum PointWord {
-    /// No word.
-    NotGiven,
-    /// `unset`.
-    Unset,
-    /// `before`.
-    Before,
-}
-
-impl TableCall {
-    /// What this word asks of tables, if it does.
-    pub fn of(word: &str) -> Option<TableCall> {
-        match word {
-            "table" => Some(TableCall::Make),
-            "lookup" => Some(TableCall::LookUp(Reach::Own)),
-            "nearest-lookup" => Some(TableCall::LookUp(Reach::Nearest)),
-            "nearest" => Some(TableCall::FindNearest),
-            "edits" => Some(TableCall::Edit),
-            "hand" => Some(TableCall::Hand),
-            _ => None,
-        }
-    }
-}
-
-impl EditWord {
-    /// The edit that this word says.
-    pub fn of(word: &str) -> EditWord {
-        match word {
-            "insert" => EditWord::Insert,
-            "remove" => EditWord::Remove,
-            "erase" => EditWord::Erase,
-            _ => EditWord::Unknown,
-        }
-    }
-}
-
-impl PointWord {
-    // The point that this word says, if it does.
-    fn of(word: &str) -> Option<PointWord> {
-        match word {
-            "" => Some(PointWord::NotGiven),
-            "unset" => Some(PointWord::Unset),
-            "before" => Some(PointWord::Before),
-            _ => None,
-        }
-    }
-}
-
-/// Does what a line asks of tables.
-pub fn table<D: OpSet>(bench: &mut Bench<D>, call: TableCall, line: Line<'_>) -> Result<(), Stop> {
-    match call {
-        TableCall::Make => make_table(bench, line),
-        TableCall::LookUp(reach) => look_up(bench, reach, line),
-        TableCall::FindNearest => find_nearest(bench, line),
-        TableCall::Edit => edit(bench, line),
-        TableCall::Hand => hand(bench, line),
+/// Does what a line says of tables: `table OP` makes one, `lookup OP NAME` and `nearest-lookup OP NAME` look a symbol
+/// up in the table of an operation and in the nearest one, `nearest OP` finds that, `edits EDIT; EDIT; ..` makes edits,
+/// and `hand OP [OP]` walks the table of an operation and breaks the walk at another one.
+pub fn table<D: OpSet>(bench: &mut Bench<D>, line: Line<'_>) -> Result<(), Stop> {
+    match line.command {
+        "table" => make_table(bench, line),
+        "lookup" | "nearest-lookup" => look_up(bench, line),
+        "nearest" => find_nearest(bench, line),
+        "edits" => edit(bench, line),
+        _ => hand(bench, line),
     }
 }
 
@@ -131,26 +45,14 @@ pub fn put_refused(answer: &mut Answer, refused: SymbolTableErr) -> Result<(), S
     }
 }
 
-fn look_up<D: OpSet>(bench: &mut Bench<D>, reach: Reach, line: Line<'_>) -> Result<(), Stop> {
+fn look_up<D: OpSet>(bench: &mut Bench<D>, line: Line<'_>) -> Result<(), Stop> {
     let op = bench.made.op(&bench.ctx, line.first)?;
+    let name = Identifier::try_new(bench.alloc, line.second)?;
     let mut tables = SymbolTableCollection::new(bench.alloc);
-    look_up_through(bench, &mut tables, reach, op, line.second)
-}
-
-/// Looks a symbol up through a collection, and writes it.
-pub fn look_up_through<D: OpSet>(
-    bench: &mut Bench<D>,
-    tables: &mut SymbolTableCollection,
-    reach: Reach,
-    op: Ptr<Operation>,
-    name: &str,
-) -> Result<(), Stop>
-    requires { IsLive bench.old.ctx (AnyNode.Operation op) }
-{
-    let name = Identifier::try_new(bench.alloc, name)?;
-    let found = match reach {
-        Reach::Own => tables.lookup_symbol_in_table(&bench.ctx, op, &name),
-        Reach::Nearest => tables.lookup_symbol_in_nearest_table(&bench.ctx, op, &name),
+    let found = if line.command == "lookup" {
+        tables.lookup_symbol_in_table(&bench.ctx, op, &name)
+    } else {
+        tables.lookup_symbol_in_nearest_table(&bench.ctx, op, &name)
     };
     match found {
         Ok(op) => bench.made.put_op(&mut bench.answer, op),
@@ -195,14 +97,14 @@ pub fn edit_of(made: &Made, words: &str) -> Result<SymbolEdit, Stop> {
     let (second, point) = split_word(rest);
     let table = op_of(made, first)?;
     let op = op_of(made, second)?;
-    match EditWord::of(command) {
-        EditWord::Insert => {
+    match command {
+        "insert" => {
             let point = point_of(made, point)?;
             Ok(SymbolEdit::Insert { table, op, point })
         }
-        EditWord::Remove => Ok(SymbolEdit::Remove { table, op }),
-        EditWord::Erase => Ok(SymbolEdit::Erase { table, op }),
-        EditWord::Unknown => Err(Stop::Refused),
+        "remove" => Ok(SymbolEdit::Remove { table, op }),
+        "erase" => Ok(SymbolEdit::Erase { table, op }),
+        _ => Err(Stop::Refused),
     }
 }
 
@@ -216,11 +118,11 @@ fn op_of(made: &Made, name: &str) -> Result<Ptr<Operation>, Stop> {
 
 /// The insertion point that some words say: none, `unset` or `before OP`.
 pub fn point_of(made: &Made, words: &str) -> Result<Option<OpInsertionPoint>, Stop> {
-    let (word, mark) = split_word(words);
-    match PointWord::of(word).ok_or(Stop::Refused)? {
-        PointWord::NotGiven => Ok(None),
-        PointWord::Unset => Ok(Some(OpInsertionPoint::Unset)),
-        PointWord::Before => Ok(Some(OpInsertionPoint::BeforeOperation(op_of(made, mark)?))),
+    match split_word(words) {
+        ("", _) => Ok(None),
+        ("unset", _) => Ok(Some(OpInsertionPoint::Unset)),
+        ("before", mark) => Ok(Some(OpInsertionPoint::BeforeOperation(op_of(made, mark)?))),
+        _ => Err(Stop::Refused),
     }
 }
 

@@ -15,33 +15,14 @@ impl ScriptKind for PairKind {
     }
 }
 
-/// What a line asks for.
-#[derive(Clone, Copy)]
-enum Call {
-    /// `verify OP` verifies a tree.
-    Verify,
-    /// A call on nodes.
-    OnNodes,
-}
-
-impl Call {
-    // What this word asks for.
-    fn of(word: &str) -> Call {
-        match word {
-            "verify" => Call::Verify,
-            _ => Call::OnNodes,
-        }
-    }
-}
-
-/// The call of this crate, and those on nodes.
+/// The call of this crate, `verify OP`, and those on nodes.
 struct VerifyCalls;
 
 impl Layer<KindSet<PairKind>> for VerifyCalls {
     fn run(bench: &mut Bench<KindSet<PairKind>>, line: Line<'_>) -> Result<(), Stop> {
-        match Call::of(line.command) {
-            Call::Verify => verify(bench, line),
-            Call::OnNodes => NodeCalls::run(bench, line),
+        match line.command {
+            "verify" => verify(bench, line),
+            _ => NodeCalls::run(bench, line),
         }
     }
 }

@@ -15,43 +15,36 @@ use std::ops::ControlFlow;
 // How many new nodes of each kind get names at most without asking for memory.
 const MAX_NEW: usize = 100;
 
-/// What is told of an inlining.
-#[derive(Clone, Copy)]
-pub enum Told {
-    /// How many calls were inlined, how many operations copied, and whether it was stopped.
-    Numbers,
-    /// Only whether it was stopped.
-    End,
-}
-
-/// Inlines the calls below the root of a line, within its budget. Where numbers aren't told, the call is made once more
-/// if memory was refused, since what is inlined until then stays. What is new has names of its own from then on, in the
+/// Does what a line says that inlines: `inline-below ROOT BUDGET` writes how many calls were inlined and how many
+/// operations copied, and `inline-all-below ROOT BUDGET` only whether it was stopped; that one is made once more where
+/// memory was refused, since what is inlined until then stays. What is new has names of its own from then on, in the
 /// order in which it stands, each node before those below it.
-pub fn inline_below<D: CallSet>(
-    bench: &mut Bench<D>,
-    told: Told,
-    line: Line<'_>,
-) -> Result<(), Stop> {
+pub fn inline_below<D: CallSet>(bench: &mut Bench<D>, line: Line<'_>) -> Result<(), Stop> {
     let root = bench.made.op(&bench.ctx, line.first)?;
     let budget = number(line.second)?;
     bench.made.ops.reserve(MAX_NEW)?;
     bench.made.regions.reserve(MAX_NEW)?;
     bench.made.blocks.reserve(MAX_NEW)?;
     let mut end = inline_calls(bench.alloc, &mut bench.ctx, root, budget);
-    if matches!(told, Told::End) && matches!(end, Err(InlineErr::Memory)) {
+    let is_again = line.command == "inline-all-below" && matches!(end, Err(InlineErr::Memory));
+    if is_again {
         let root = bench.made.op(&bench.ctx, line.first)?;
         end = inline_calls(bench.alloc, &mut bench.ctx, root, budget);
     }
     let root = bench.made.op(&bench.ctx, line.first)?;
     name_new(&bench.ctx, &mut bench.made, root)?;
-    put_end(&mut bench.answer, told, end)
+    put_end(&mut bench.answer, line.command == "inline-below", end)
 }
 
-// Writes how an inlining has ended.
-fn put_end(answer: &mut Answer, told: Told, end: Result<Inlining, InlineErr>) -> Result<(), Stop> {
+// Writes how an inlining has ended, with or without its numbers.
+fn put_end(
+    answer: &mut Answer,
+    with_numbers: bool,
+    end: Result<Inlining, InlineErr>,
+) -> Result<(), Stop> {
     match end {
         Ok(done) => {
-            if matches!(told, Told::Numbers) {
+            if with_numbers {
                 answer.put_number(done.calls);
                 answer.put(" calls ");
                 answer.put_number(done.copied);

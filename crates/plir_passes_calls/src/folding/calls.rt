@@ -21,53 +21,20 @@ impl ScriptKind for ToyKind {
     }
 }
 
-/// What a line asks for.
-#[derive(Clone, Copy)]
-enum Call {
-    /// `fold OP` folds constants.
-    Fold,
-    /// `fold-values OP` folds values.
-    FoldValues,
-    /// `merge OP` merges constants.
-    Merge,
-    /// `operand OP PLACE` tells which constant an operand is.
-    Operand,
-    /// `written OP PLACE` tells where the maker of an operand was written.
-    Written,
-    /// `fold-chain LAYOUT LINKS`: whether a long chain folds.
-    FoldChain,
-    /// A call on nodes.
-    OnNodes,
-}
-
-impl Call {
-    // What this word asks for.
-    fn of(word: &str) -> Call {
-        match word {
-            "fold" => Call::Fold,
-            "fold-values" => Call::FoldValues,
-            "merge" => Call::Merge,
-            "operand" => Call::Operand,
-            "written" => Call::Written,
-            "fold-chain" => Call::FoldChain,
-            _ => Call::OnNodes,
-        }
-    }
-}
-
-/// The calls of this crate, and those on nodes.
+/// The calls of this crate, `fold OP`, `fold-values OP`, `merge OP`, `operand OP PLACE`, `written OP PLACE` and
+/// `fold-chain LAYOUT LINKS`, and those on nodes.
 struct FoldCalls;
 
 impl Layer<KindSet<ToyKind>> for FoldCalls {
     fn run(bench: &mut Bench<KindSet<ToyKind>>, line: Line<'_>) -> Result<(), Stop> {
-        match Call::of(line.command) {
-            Call::Fold => fold(bench, line),
-            Call::FoldValues => values(bench, line),
-            Call::Merge => merge(bench, line),
-            Call::Operand => operand(bench, line),
-            Call::Written => written(bench, line),
-            Call::FoldChain => fold_chain(bench, line),
-            Call::OnNodes => NodeCalls::run(bench, line),
+        match line.command {
+            "fold" => fold(bench, line),
+            "fold-values" => values(bench, line),
+            "merge" => merge(bench, line),
+            "operand" => operand(bench, line),
+            "written" => written(bench, line),
+            "fold-chain" => fold_chain(bench, line),
+            _ => NodeCalls::run(bench, line),
         }
     }
 }
@@ -154,8 +121,18 @@ fn written(bench: &mut Bench<KindSet<ToyKind>>, line: Line<'_>) -> Result<(), St
 
 // Answers whether a long chain of links that is laid out so folds.
 fn fold_chain(bench: &mut Bench<KindSet<ToyKind>>, line: Line<'_>) -> Result<(), Stop> {
-    let layout = Layout::of(line.first).ok_or(Stop::Refused)?;
-    let links = Links::of(line.second).ok_or(Stop::Refused)?;
+    let layout = match line.first {
+        "one-block" => Layout::OneBlock,
+        "blocks" => Layout::Blocks,
+        "zigzag" => Layout::Zigzag,
+        _ => return Err(Stop::Refused),
+    };
+    let links = match line.second {
+        "ones" => Links::Ones,
+        "zeros" => Links::Zeros,
+        "differences" => Links::Differences,
+        _ => return Err(Stop::Refused),
+    };
     let is_folded = folds(bench.alloc, layout, links)?;
     bench.answer.put_truth(is_folded);
     Ok(())

@@ -42,30 +42,6 @@ pub enum Layout {
     Zigzag,
 }
 
-impl Links {
-    /// The links that this word says, if it does.
-    pub fn of(word: &str) -> Option<Links> {
-        match word {
-            "ones" => Some(Links::Ones),
-            "zeros" => Some(Links::Zeros),
-            "differences" => Some(Links::Differences),
-            _ => None,
-        }
-    }
-}
-
-impl Layout {
-    /// The layout that this word says, if it does.
-    pub fn of(word: &str) -> Option<Layout> {
-        match word {
-            "one-block" => Some(Layout::OneBlock),
-            "blocks" => Some(Layout::Blocks),
-            "zigzag" => Some(Layout::Zigzag),
-            _ => None,
-        }
-    }
-}
-
 // The type of the integers of a chain.
 fn integer_type(ctx: &mut Context<ToySet>) -> Result<TypedHandle<IntegerType>, Stop>
     ensures live { IfOk result (IsTypeLive ctx.new.types) }

@@ -23,53 +23,20 @@ impl ScriptKind for ToyKind {
     }
 }
 
-/// What a line asks for.
-#[derive(Clone, Copy)]
-enum Call {
-    /// `eliminate OP` eliminates dead code.
-    Eliminate,
-    /// `reach OP` eliminates what is not reached.
-    Reach,
-    /// `renew OP` replaces what is old.
-    Renew,
-    /// `put OP VALUE` puts an operation before another one.
-    Put,
-    /// `replace-op OP VALUE` puts a value in place of an operation.
-    Replace,
-    /// `name OP` names the operation before another one.
-    Name,
-    /// A call on nodes.
-    OnNodes,
-}
-
-impl Call {
-    // What this word asks for.
-    fn of(word: &str) -> Call {
-        match word {
-            "eliminate" => Call::Eliminate,
-            "reach" => Call::Reach,
-            "renew" => Call::Renew,
-            "put" => Call::Put,
-            "replace-op" => Call::Replace,
-            "name" => Call::Name,
-            _ => Call::OnNodes,
-        }
-    }
-}
-
-/// The calls of this crate, and those on nodes.
+/// The calls of this crate, `eliminate OP`, `reach OP`, `renew OP`, `put OP VALUE`, `replace-op OP VALUE`, `name OP`,
+/// and those on nodes.
 struct PassCalls;
 
 impl Layer<KindSet<ToyKind>> for PassCalls {
     fn run(bench: &mut Bench<KindSet<ToyKind>>, line: Line<'_>) -> Result<(), Stop> {
-        match Call::of(line.command) {
-            Call::Eliminate => eliminate(bench, line.first),
-            Call::Reach => reach(bench, line.first),
-            Call::Renew => renew(bench, line.first),
-            Call::Put => put(bench, line),
-            Call::Replace => replace(bench, line),
-            Call::Name => name(bench, line.first),
-            Call::OnNodes => NodeCalls::run(bench, line),
+        match line.command {
+            "eliminate" => eliminate(bench, line.first),
+            "reach" => reach(bench, line.first),
+            "renew" => renew(bench, line.first),
+            "put" => put(bench, line),
+            "replace-op" => replace(bench, line),
+            "name" => name(bench, line.first),
+            _ => NodeCalls::run(bench, line),
         }
     }
 }

@@ -27,33 +27,15 @@ impl ScriptKind for HoldingKind {
     }
 }
 
-/// What a line asks for.
-#[derive(Clone, Copy)]
-enum Call {
-    /// `session CALL; CALL; ..`: calls through one collection of tables.
-    Session,
-    /// A call on nodes.
-    OnNodes,
-}
-
-impl Call {
-    // What this word asks for.
-    fn of(word: &str) -> Call {
-        match word {
-            "session" => Call::Session,
-            _ => Call::OnNodes,
-        }
-    }
-}
-
 /// The sessions of this crate, and the calls on nodes.
 struct SymbolCalls;
 
 impl<D: ScriptSet + SymbolNames> Layer<D> for SymbolCalls {
     fn run(bench: &mut Bench<D>, line: Line<'_>) -> Result<(), Stop> {
-        match Call::of(line.command) {
-            Call::Session => session(bench, line),
-            Call::OnNodes => NodeCalls::run(bench, line),
+        if line.command == "session" {
+            session(bench, line)
+        } else {
+            NodeCalls::run(bench, line)
         }
     }
 }

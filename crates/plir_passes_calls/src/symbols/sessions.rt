@@ -9,55 +9,10 @@ use plir_scripts::{Answer, Bench, Line, Made, Stop, split_word};
 use plir_symbols::{CallGraph, SymbolNames, call_graph, eliminate_dead_symbols};
 use std::alloc::Global;
 
-/// A call through the collection.
-#[derive(Clone, Copy)]
-enum SessionCall {
-    /// `lookup OP NAME` looks a name up in the table of an operation.
-    LookUp,
-    /// `eliminate OP` eliminates dead symbols.
-    Eliminate,
-    /// A question to the call graph under an operation.
-    Ask(Question),
-}
-
-/// A question to a call graph.
-#[derive(Clone, Copy)]
-enum Question {
-    /// `edges OP`: which operations use which symbols.
-    Edges,
-    /// `callees OP OP`: which symbols are used in an operation.
-    Callees,
-    /// `callers OP OP`: in which symbols an operation is used.
-    Callers,
-    /// Another word, which is refused.
-    Unknown,
-}
-
-impl SessionCall {
-    // The call that this word says.
-    fn of(word: &str) -> SessionCall {
-        match word {
-            "lookup" => SessionCall::LookUp,
-            "eliminate" => SessionCall::Eliminate,
-            _ => SessionCall::Ask(Question::of(word)),
-        }
-    }
-}
-
-impl Question {
-    // The question that this word says.
-    fn of(word: &str) -> Question {
-        match word {
-            "edges" => Question::Edges,
-            "callees" => Question::Callees,
-            "callers" => Question::Callers,
-            _ => Question::Unknown,
-        }
-    }
-}
-
-/// Makes the calls of `session CALL; CALL; ..` through one collection. Where a call is refused for want of memory, the
-/// table is compared with one that is made anew, and the call is made once more.
+/// Makes the calls of `session CALL; CALL; ..` through one collection: `eliminate OP`, `lookup OP NAME` in the table of
+/// an operation, `edges OP` of the call graph under an operation, and there `callees OP OP` and `callers OP OP`. Where
+/// a call is refused for want of memory, the table is compared with one that is made anew, and the call is made once
+/// more.
 pub fn session<D: SymbolNames>(bench: &mut Bench<D>, line: Line<'_>) -> Result<(), Stop> {
     let mut tables = SymbolTableCollection::new(bench.alloc);
     for words in line.text.split("; ") {
@@ -78,10 +33,10 @@ fn call<D: SymbolNames>(
     let (command, rest) = split_word(words);
     let (first, name) = split_word(rest);
     let table = bench.made.op(&bench.ctx, first)?;
-    match SessionCall::of(command) {
-        SessionCall::LookUp => look_up(bench, tables, table, name),
-        SessionCall::Eliminate => eliminate(bench, tables, table),
-        SessionCall::Ask(question) => ask_graph(bench, tables, table, question, name),
+    match command {
+        "lookup" => look_up(bench, tables, table, name),
+        "eliminate" => eliminate(bench, tables, table),
+        _ => ask_graph(bench, tables, table, command, name),
     }
 }
 
@@ -104,43 +59,25 @@ fn ask_graph<D: SymbolNames>(
     bench: &mut Bench<D>,
     tables: &mut SymbolTableCollection,
     root: Ptr<Operation>,
-    question: Question,
+    command: &str,
     word: &str,
 ) -> Result<(), Stop>
     requires { IsLive bench.old.ctx (AnyNode.Operation root) }
 {
-    match call_graph(bench.alloc, &bench.ctx, tables, root) {
-        Ok(graph) => put_asked(bench, &graph, question, word),
-        Err(refused) => put_refused(&mut bench.answer, refused),
-    }
-}
-
-// Writes what is asked of a call graph.
-fn put_asked<D: OpSet>(
-    bench: &mut Bench<D>,
-    graph: &CallGraph,
-    question: Question,
-    word: &str,
-) -> Result<(), Stop> {
-    match question {
-        Question::Edges => put_edges(bench, graph),
-        Question::Callees => {
-            let op = bench.made.op(&bench.ctx, word)?;
-            put_ops(bench, &graph.callees(bench.alloc, op)?);
-        }
-        Question::Callers => {
-            let op = bench.made.op(&bench.ctx, word)?;
-            put_ops(bench, &graph.callers(bench.alloc, op)?);
-        }
-        Question::Unknown => return Err(Stop::Refused),
-    }
-    Ok(())
-}
-
-fn put_ops<D: OpSet>(bench: &mut Bench<D>, ops: &[Ptr<Operation>]) {
-    for op in ops {
+    let graph = match call_graph(bench.alloc, &bench.ctx, tables, root) {
+        Ok(graph) => graph,
+        Err(refused) => return put_refused(&mut bench.answer, refused),
+    };
+    let found = match command {
+        "edges" => return Ok(put_edges(bench, &graph)),
+        "callees" => graph.callees(bench.alloc, bench.made.op(&bench.ctx, word)?)?,
+        "callers" => graph.callers(bench.alloc, bench.made.op(&bench.ctx, word)?)?,
+        _ => return Err(Stop::Refused),
+    };
+    for op in &found {
         bench.made.put_op(&mut bench.answer, Some(*op));
     }
+    Ok(())
 }
 
 fn put_edges<D: OpSet>(bench: &mut Bench<D>, graph: &CallGraph) {
