@@ -4,4 +4,3 @@
 
 pub mod flow;
 pub mod flow_sets;
-mod sizes;

@@ -1,6 +1,5 @@
 //! The calls of scripts on types and attributes, and how such a script is played.
 mod calls;
-mod data_call;
 mod entries;
 mod numbers;
 mod types;

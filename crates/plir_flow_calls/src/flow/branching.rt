@@ -2,54 +2,49 @@
 ghost use Rattle.plir_core.specs.ContextView.{IsLive};
 ghost use Rattle.plir_core.specs.declared.ptr.IRNode.{IRNode as AnyNode};
 
-use crate::flow::flow_call::{BranchCall, CountedCall};
-use crate::flow::grouping::put_placed;
+use crate::flow::grouping::{put_values, put_verdict};
 use plir_core::{Context, LessThanN};
 use plir_data::OpSet;
 use plir_flow::{BranchOpInterface, NSuccsInterface, OneSuccInterface};
 use plir_scripts::{Answer, Bench, Line, Made, Stop, number};
 use std::alloc::Global;
 
-/// The calls on a branch.
+/// The calls on a branch: `forwarded`, `add`, `drop` and `reset`; any other one verifies.
 pub fn call_branch<D: OpSet, B: BranchOpInterface<D>>(
     bench: &mut Bench<D>,
     op: &B,
-    call: BranchCall,
     line: Line<'_>,
 ) -> Result<(), Stop>
     requires { IsLive bench.old.ctx (AnyNode.Operation (B.pointer op.now)) }
 {
     let (alloc, ctx, made, answer) = (bench.alloc, &mut bench.ctx, &bench.made, &mut bench.answer);
-    match call {
-        BranchCall::Add => add(alloc, ctx, made, answer, op, line),
-        BranchCall::Drop => take_out(alloc, ctx, made, answer, op, line),
-        BranchCall::Reset => reset(alloc, ctx, made, op, line),
-        BranchCall::Forwarded => {
-            ask_forwarded(alloc, ctx, made, answer, op, number(line.second)?)
-        }
-        BranchCall::Verify => {
-            answer.put_verdict(BranchOpInterface::<D>::verify(op, alloc, ctx));
+    match line.command {
+        "add" => add(alloc, ctx, made, answer, op, line),
+        "drop" => take_out(alloc, ctx, made, answer, op, line),
+        "reset" => reset(alloc, ctx, made, op, line),
+        "forwarded" => ask_forwarded(alloc, ctx, made, answer, op, number(line.second)?),
+        _ => {
+            put_verdict(answer, BranchOpInterface::<D>::verify(op, alloc, ctx));
             Ok(())
         }
     }
 }
 
-/// Verifies by a rule of numbers of successors, writes the last of two successors, or the one, or does what can be done
-/// with any branch.
+/// `branch OP RULE` verifies by a rule of numbers of successors, `successor OP` writes the last of two successors, or
+/// the one; the other calls are those on any branch.
 pub fn call_counted<D: OpSet, B: NSuccsInterface<D, 2> + OneSuccInterface<D>>(
     bench: &mut Bench<D>,
     op: &B,
-    call: CountedCall,
     line: Line<'_>,
 ) -> Result<(), Stop>
     requires { IsLive bench.old.ctx (AnyNode.Operation (B.pointer op.now)) }
 {
     let (ctx, answer) = (&bench.ctx, &mut bench.answer);
-    match call {
-        CountedCall::VerifyTwo => answer.put_verdict(NSuccsInterface::<D, 2>::verify(op, ctx)),
-        CountedCall::VerifyOne => answer.put_verdict(OneSuccInterface::<D>::verify(op, ctx)),
-        CountedCall::Successor => return ask_successor(ctx, &bench.made, answer, op),
-        CountedCall::Any(call) => return call_branch(bench, op, call, line),
+    match (line.command, line.second) {
+        ("successor", _) => return ask_successor(ctx, &bench.made, answer, op),
+        ("branch", "NSuccs<2>") => put_verdict(answer, NSuccsInterface::<D, 2>::verify(op, ctx)),
+        ("branch", "OneSucc") => put_verdict(answer, OneSuccInterface::<D>::verify(op, ctx)),
+        _ => return call_branch(bench, op, line),
     }
     Ok(())
 }
@@ -95,7 +90,12 @@ fn ask_forwarded<D: OpSet, B: BranchOpInterface<D>>(
     }
     let values = op.successor_operands(alloc, ctx, succ)?;
     let range = op.successor_operand_range(ctx, succ);
-    put_placed(made, answer, range, values.as_slice());
+    let (start, end) = (range.start, range.end);
+    answer.put_number(start);
+    answer.put(" to ");
+    answer.put_number(end);
+    answer.put(":");
+    put_values(made, answer, values.as_slice());
     Ok(())
 }
 

@@ -6,20 +6,16 @@ use crate::flow::call_ops::{NamedCall, ValueCall};
 use crate::flow::calling::call;
 use crate::flow::cond_branch::CondBranch;
 use crate::flow::editing::edit;
-use crate::flow::flow_call::{
-    BranchCall, CallCall, CountedCall, SegmentCall, SegmentEdit, SegmentQuestion,
-};
 use crate::flow::grouped::Grouped;
 use crate::flow::grouping::{
-    TypeRule, ask_count, ask_held, ask_segment, ask_size, expected_of, flatten, set_sizes, verify,
-    verify_types,
+    ask_all, ask_segment, ask_size, expected_of, flatten, set_sizes, verify, verify_types,
 };
 use crate::flow::refusing::Refusing;
 use crate::flow::switch::Switch;
 use plir_core::{Operation, Ptr};
 use plir_data::OpSet;
 use plir_scripts::{
-    Bench, Layer, Line, Mismatch, NodeCalls, SampleSet, ScriptSet, Stop, number, play, split_word,
+    Bench, Layer, Line, Mismatch, NodeCalls, SampleSet, ScriptSet, Stop, number, play,
 };
 use std::alloc::Global;
 
@@ -28,16 +24,13 @@ struct SegmentCalls;
 
 impl<D: ScriptSet> Layer<D> for SegmentCalls {
     fn run(bench: &mut Bench<D>, line: Line<'_>) -> Result<(), Stop> {
-        let Some(call) = SegmentCall::of(line.command) else {
-            return NodeCalls::run(bench, line);
-        };
-        match call {
-            SegmentCall::Flatten => flatten(bench, line),
-            SegmentCall::Verify => verify_counted(bench, line),
-            SegmentCall::VerifyTypes => verify_segment_types(bench, line),
-            SegmentCall::SetSizes => set_segment_sizes(bench, line),
-            SegmentCall::Edit(kind) => edit_segments(bench, kind, line),
-            SegmentCall::Ask(question) => ask_segments(bench, question, line),
+        match line.command {
+            "flatten" => flatten(bench, line),
+            "verify" => verify_counted(bench, line),
+            "segment-types" => verify_segment_types(bench, line),
+            "sizes" | "push" | "into" | "pop" | "from" => change_segments(bench, line),
+            "segments" | "held" | "size" | "segment" => ask_segments(bench, line),
+            _ => NodeCalls::run(bench, line),
         }
     }
 }
@@ -52,52 +45,33 @@ fn verify_counted<D: OpSet>(bench: &mut Bench<D>, line: Line<'_>) -> Result<(), 
 // Verifies the types of the segments of an operation by a rule.
 fn verify_segment_types<D: OpSet>(bench: &mut Bench<D>, line: Line<'_>) -> Result<(), Stop> {
     let op = bench.made.op(&bench.ctx, line.first)?;
-    let (_, rule) = split_word(line.text);
+    let (_, rule) = line.text.split_once(' ').unwrap_or((line.text, ""));
     verify_types(
         bench.alloc,
         &bench.ctx,
         &mut bench.answer,
         &segments_of(op),
-        TypeRule::of(rule)?,
+        rule,
     )
 }
 
-fn set_segment_sizes<D: OpSet>(bench: &mut Bench<D>, line: Line<'_>) -> Result<(), Stop> {
+// Changes the segments of an operation.
+fn change_segments<D: OpSet>(bench: &mut Bench<D>, line: Line<'_>) -> Result<(), Stop> {
     let op = segments_of(bench.made.op(&bench.ctx, line.first)?);
-    set_sizes(bench, &op, line)
-}
-
-fn edit_segments<D: OpSet>(
-    bench: &mut Bench<D>,
-    kind: SegmentEdit,
-    line: Line<'_>,
-) -> Result<(), Stop> {
-    let op = segments_of(bench.made.op(&bench.ctx, line.first)?);
-    edit(
-        &mut bench.ctx,
-        &bench.made,
-        &mut bench.answer,
-        &op,
-        kind,
-        line,
-    )
+    match line.command {
+        "sizes" => set_sizes(bench, &op, line),
+        _ => edit(&mut bench.ctx, &bench.made, &mut bench.answer, &op, line),
+    }
 }
 
 // Asks for the segments of an operation.
-fn ask_segments<D: OpSet>(
-    bench: &mut Bench<D>,
-    question: SegmentQuestion,
-    line: Line<'_>,
-) -> Result<(), Stop> {
+fn ask_segments<D: OpSet>(bench: &mut Bench<D>, line: Line<'_>) -> Result<(), Stop> {
     let op = segments_of(bench.made.op(&bench.ctx, line.first)?);
     let (alloc, ctx, made, answer) = (bench.alloc, &bench.ctx, &bench.made, &mut bench.answer);
-    match question {
-        SegmentQuestion::Count => ask_count(ctx, answer, &op),
-        SegmentQuestion::Held => ask_held(ctx, made, answer, &op),
-        SegmentQuestion::Size => ask_size(ctx, answer, &op, number(line.second)?),
-        SegmentQuestion::Segment => {
-            ask_segment(alloc, ctx, made, answer, &op, number(line.second)?)
-        }
+    match line.command {
+        "size" => ask_size(ctx, answer, &op, number(line.second)?),
+        "segment" => ask_segment(alloc, ctx, made, answer, &op, number(line.second)?),
+        _ => ask_all(ctx, made, answer, &op, line.command),
     }
 }
 
@@ -113,11 +87,14 @@ struct BranchCalls;
 
 impl<D: Refusing> Layer<D> for BranchCalls {
     fn run(bench: &mut Bench<D>, line: Line<'_>) -> Result<(), Stop> {
-        let Some(call) = CountedCall::of(line.command, line.second) else {
+        if !matches!(
+            line.command,
+            "branch" | "successor" | "forwarded" | "add" | "drop" | "reset"
+        ) {
             return SegmentCalls::run(bench, line);
-        };
+        }
         let op = bench.made.op(&bench.ctx, line.first)?;
-        call_counted(bench, &CondBranch { op }, call, line)
+        call_counted(bench, &CondBranch { op }, line)
     }
 }
 
@@ -126,16 +103,15 @@ struct SwitchCalls;
 
 impl<D: Refusing> Layer<D> for SwitchCalls {
     fn run(bench: &mut Bench<D>, line: Line<'_>) -> Result<(), Stop> {
-        let Some(call) = BranchCall::of_switch(line.command) else {
+        if !matches!(
+            line.command,
+            "switch" | "forwarded" | "add" | "drop" | "reset"
+        ) {
             return SegmentCalls::run(bench, line);
-        };
+        }
         let op = bench.made.op(&bench.ctx, line.first)?;
-        call_branch(bench, &Switch { op }, call, line)
+        call_branch(bench, &Switch { op }, line)
     }
-}
-
-fn is_named(kind: &str) -> bool {
-    kind == "name"
 }
 
 /// The calls on calls, and those on nodes. The kind of a call is `name`, or else that of a value.
@@ -143,14 +119,17 @@ struct CallCalls;
 
 impl<D: Refusing> Layer<D> for CallCalls {
     fn run(bench: &mut Bench<D>, line: Line<'_>) -> Result<(), Stop> {
-        let Some(asked) = CallCall::of(line.command) else {
+        if !matches!(
+            line.command,
+            "layout" | "call" | "args" | "callee-type" | "set-callee"
+        ) {
             return NodeCalls::run(bench, line);
-        };
+        }
         let op = bench.made.op(&bench.ctx, line.first)?;
-        if is_named(line.second) {
-            call(bench, &NamedCall { op }, asked, line)
+        if line.second == "name" {
+            call(bench, &NamedCall { op }, line)
         } else {
-            call(bench, &ValueCall { op }, asked, line)
+            call(bench, &ValueCall { op }, line)
         }
     }
 }

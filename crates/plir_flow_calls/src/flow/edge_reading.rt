@@ -14,21 +14,9 @@ pub fn region_of(made: &Made, name: &str) -> Result<Ptr<Region>, Stop> {
     }
 }
 
-fn is_parent(name: &str) -> bool {
-    name == "parent"
-}
-
-fn is_after(name: &str) -> bool {
-    name == "after"
-}
-
-fn is_nothing(words: &str) -> bool {
-    words == "-"
-}
-
 /// What an edge starts at.
 pub fn point_of(made: &Made, name: &str) -> Result<RegionBranchPoint, Stop> {
-    if is_parent(name) {
+    if name == "parent" {
         return Ok(RegionBranchPoint::Parent);
     }
     match made.node(name)? {
@@ -39,7 +27,7 @@ pub fn point_of(made: &Made, name: &str) -> Result<RegionBranchPoint, Stop> {
 
 /// What an edge leads to.
 pub fn successor_of(made: &Made, name: &str) -> Result<RegionSuccessor, Stop> {
-    if is_after(name) {
+    if name == "after" {
         return Ok(RegionSuccessor::After);
     }
     Ok(RegionSuccessor::Region(region_of(made, name)?))
@@ -57,7 +45,7 @@ fn use_of(made: &Made, word: &str) -> Result<Use<Value>, Stop> {
 // The operands that words parted by commas name.
 fn reads_of(alloc: Global, made: &Made, words: &str) -> Result<Vec<Use<Value>>, Stop> {
     let mut reads = Vec::new(alloc);
-    if is_nothing(words) {
+    if words == "-" {
         return Ok(reads);
     }
     for word in words.split(',') {
@@ -74,7 +62,7 @@ fn flows_of<D: OpSet>(
     words: &str,
 ) -> Result<Vec<(Use<Value>, Value)>, Stop> {
     let mut flows = Vec::new(alloc);
-    if is_nothing(words) {
+    if words == "-" {
         return Ok(flows);
     }
     for word in words.split(',') {

@@ -1,42 +1,33 @@
 //! The scripts of region edges, with their answers.
-use crate::flow::edge_question::{EdgeCall, EdgeQuestion};
 use crate::flow::edge_reading::{edges_of, region_of};
 use crate::flow::edged::Edged;
-use crate::flow::edging::{ask_edges, put_same, verify_edges, verify_loop};
+use crate::flow::edging::{ask_edges, put_same, verify_loop};
 use crate::flow::looping::Loop;
 use crate::flow::refusing::Refusing;
 use plir_scripts::{Bench, Layer, Line, Mismatch, NodeCalls, SampleSet, Stop, play, split_word};
 use std::alloc::Global;
 
-/// The calls on region edges, and those on nodes.
+/// The calls on region edges, and those on nodes. `edges OP QUESTION NAME | EDGE; EDGE` asks of an operation with these
+/// edges.
 struct EdgeCalls;
 
 impl<D: Refusing> Layer<D> for EdgeCalls {
     fn run(bench: &mut Bench<D>, line: Line<'_>) -> Result<(), Stop> {
-        match EdgeCall::of(line.command) {
-            Some(EdgeCall::Loop) => ask_loop(bench, line),
-            Some(EdgeCall::Edges) => ask_edged(bench, line),
-            None => NodeCalls::run(bench, line),
+        if line.command == "loop" {
+            return ask_loop(bench, line);
         }
-    }
-}
-
-// Asks of an operation with the edges that a line tells.
-fn ask_edged<D: Refusing>(bench: &mut Bench<D>, line: Line<'_>) -> Result<(), Stop> {
-    let (alloc, ctx, made, answer) = (bench.alloc, &bench.ctx, &bench.made, &mut bench.answer);
-    let op = made.op(ctx, line.first)?;
-    let (_, written) = line.text.split_once(" | ").ok_or(Stop::Refused)?;
-    let edges = edges_of(alloc, ctx, made, written)?;
-    let any = Edged { op, edges: &edges };
-    match EdgeQuestion::of(line.second) {
-        EdgeQuestion::Same => put_same(alloc, answer, &edges),
-        EdgeQuestion::Verify => {
-            verify_edges(alloc, ctx, answer, &any);
-            Ok(())
+        if line.command != "edges" {
+            return NodeCalls::run(bench, line);
         }
-        EdgeQuestion::Standing(asked) => {
-            ask_edges(alloc, ctx, made, answer, &any, asked, line.third)
+        let (alloc, ctx, made, answer) = (bench.alloc, &bench.ctx, &bench.made, &mut bench.answer);
+        let op = made.op(ctx, line.first)?;
+        let (_, written) = line.text.split_once(" | ").ok_or(Stop::Refused)?;
+        let edges = edges_of(alloc, ctx, made, written)?;
+        if line.second == "same" {
+            return put_same(alloc, answer, &edges);
         }
+        let any = Edged { op, edges: &edges };
+        ask_edges(alloc, ctx, made, answer, &any, line)
     }
 }
 

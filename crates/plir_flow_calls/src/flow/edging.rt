@@ -2,13 +2,12 @@
 ghost use Rattle.plir_core.specs.ContextView.{IsLive};
 ghost use Rattle.plir_core.specs.declared.ptr.IRNode.{IRNode as AnyNode};
 
-use crate::flow::edge_question::{EndQuestion, RegionQuestion, StandingQuestion};
 use crate::flow::edge_reading::{point_of, region_of, successor_of};
-use crate::flow::grouping::put_values;
+use crate::flow::grouping::{put_values, put_verdict};
 use plir_core::{Context, Ptr, Region, Use, Value};
 use plir_data::OpSet;
 use plir_flow::{RegionBranchOpInterface, RegionBranchPoint, RegionEdge, RegionSuccessor};
-use plir_scripts::{Answer, Made, Stop};
+use plir_scripts::{Answer, Line, Made, Stop, split_word};
 use std::alloc::Global;
 
 // Writes the name of an operand's operation, and the operand's place.
@@ -66,45 +65,32 @@ pub fn put_same(alloc: Global, answer: &mut Answer, edges: &[RegionEdge]) -> Res
     Ok(())
 }
 
-/// `edges OP verify`.
-pub fn verify_edges<D: OpSet, O: RegionBranchOpInterface<D>>(
-    alloc: Global,
-    ctx: &Context<D>,
-    answer: &mut Answer,
-    op: &O,
-)
-    requires { IsLive ctx.now (AnyNode.Operation (O.pointer op.now)) }
-{
-    answer.put_verdict(op.verify(alloc, ctx));
-}
-
-/// The questions about edges that stand as they should.
+/// The questions about region edges: `verify`, and those about a region, what flows, or one end of edges.
 pub fn ask_edges<D: OpSet, O: RegionBranchOpInterface<D>>(
     alloc: Global,
     ctx: &Context<D>,
     made: &Made,
     answer: &mut Answer,
     op: &O,
-    question: StandingQuestion,
-    name: &str,
+    line: Line<'_>,
 ) -> Result<(), Stop>
     requires { IsLive ctx.now (AnyNode.Operation (O.pointer op.now)) }
 {
+    let question = line.second;
+    if question == "verify" {
+        put_verdict(answer, op.verify(alloc, ctx));
+        return Ok(());
+    }
     if op.verify_region_edges_layout(alloc, ctx).is_err() {
         return Err(Stop::Refused);
     }
+    let (name, _) = split_word(line.tail);
     match question {
-        StandingQuestion::Region(asked) => ask_region(alloc, ctx, made, answer, op, asked, name),
-        StandingQuestion::Flows => {
-            put_flows(made, answer, &op.region_flows(alloc, ctx)?);
-            Ok(())
+        "reachable" | "reached" | "repetitive" | "successors" | "reads" => {
+            ask_region(alloc, ctx, made, answer, op, question, name)
         }
-        StandingQuestion::Incoming => {
-            let receiver = made.value(ctx, name)?;
-            put_uses(made, answer, &op.incoming_operands(alloc, ctx, receiver)?);
-            Ok(())
-        }
-        StandingQuestion::End(asked) => ask_end(alloc, ctx, made, answer, op, asked, name),
+        "flows" | "incoming" => ask_flows(alloc, ctx, made, answer, op, question, name),
+        _ => ask_end(alloc, ctx, made, answer, op, question, name),
     }
 }
 
@@ -115,7 +101,7 @@ fn ask_region<D: OpSet, O: RegionBranchOpInterface<D>>(
     made: &Made,
     answer: &mut Answer,
     op: &O,
-    question: RegionQuestion,
+    question: &str,
     name: &str,
 ) -> Result<(), Stop>
     requires live { IsLive ctx.now (AnyNode.Operation (O.pointer op.now)) }
@@ -123,23 +109,11 @@ fn ask_region<D: OpSet, O: RegionBranchOpInterface<D>>(
 {
     let region = region_of(made, name)?;
     match question {
-        RegionQuestion::Reached => answer.put_number(
-            op.reachable_regions(alloc, ctx, region)?.len(),
-        ),
-        RegionQuestion::Reachable => put_regions(
-            made,
-            answer,
-            &op.reachable_regions(alloc, ctx, region)?,
-        ),
-        RegionQuestion::Repetitive => answer.put_truth(op.is_repetitive_region(
-            alloc, ctx, region,
-        )?),
-        RegionQuestion::Successors => put_regions(
-            made,
-            answer,
-            &op.successor_regions(alloc, ctx, region)?,
-        ),
-        RegionQuestion::Reads => put_uses(
+        "reached" => answer.put_number(op.reachable_regions(alloc, ctx, region)?.len()),
+        "reachable" => put_regions(made, answer, &op.reachable_regions(alloc, ctx, region)?),
+        "repetitive" => answer.put_truth(op.is_repetitive_region(alloc, ctx, region)?),
+        "successors" => put_regions(made, answer, &op.successor_regions(alloc, ctx, region)?),
+        _ => put_uses(
             made,
             answer,
             &op.operands_read_from_region(alloc, ctx, region)?,
@@ -155,36 +129,58 @@ fn ask_end<D: OpSet, O: RegionBranchOpInterface<D>>(
     made: &Made,
     answer: &mut Answer,
     op: &O,
-    question: EndQuestion,
+    question: &str,
     name: &str,
 ) -> Result<(), Stop>
     requires live { IsLive ctx.now (AnyNode.Operation (O.pointer op.now)) }
     requires layout { O.has_edges_layout op.now ctx.now }
 {
     match question {
-        EndQuestion::From => put_edges(
+        "from" => put_edges(
             made,
             answer,
             &op.edges_from(alloc, ctx, point_of(made, name)?)?,
         ),
-        EndQuestion::To => put_edges(
+        "to" => put_edges(
             made,
             answer,
             &op.edges_to(alloc, ctx, successor_of(made, name)?)?,
         ),
-        EndQuestion::ReadFrom => {
+        "read-from" => {
             let reads = op.operands_read_from(alloc, ctx, point_of(made, name)?)?;
             put_uses(made, answer, &reads);
         }
-        EndQuestion::ReadTo => {
+        "read-to" => {
             let reads = op.operands_read_to(alloc, ctx, successor_of(made, name)?)?;
             put_uses(made, answer, &reads);
         }
-        EndQuestion::Receivers => {
+        _ => {
             let receivers = op.successor_receivers(alloc, ctx, successor_of(made, name)?)?;
             put_values(made, answer, &receivers);
         }
     }
+    Ok(())
+}
+
+// The questions about what flows: all of it, or into one value.
+fn ask_flows<D: OpSet, O: RegionBranchOpInterface<D>>(
+    alloc: Global,
+    ctx: &Context<D>,
+    made: &Made,
+    answer: &mut Answer,
+    op: &O,
+    question: &str,
+    name: &str,
+) -> Result<(), Stop>
+    requires live { IsLive ctx.now (AnyNode.Operation (O.pointer op.now)) }
+    requires layout { O.has_edges_layout op.now ctx.now }
+{
+    if question == "flows" {
+        put_flows(made, answer, &op.region_flows(alloc, ctx)?);
+        return Ok(());
+    }
+    let receiver = made.value(ctx, name)?;
+    put_uses(made, answer, &op.incoming_operands(alloc, ctx, receiver)?);
     Ok(())
 }
 
@@ -198,7 +194,7 @@ pub fn verify_loop<D: OpSet, O: RegionBranchOpInterface<D>>(
 ) -> Result<(), Stop>
     requires { IsLive ctx.now (AnyNode.Operation (O.pointer any.now)) }
 {
-    verify_edges(alloc, ctx, answer, any);
+    put_verdict(answer, any.verify(alloc, ctx));
     if any.verify_region_edges_layout(alloc, ctx).is_ok() {
         put_edges(made, answer, &any.region_edges(alloc, ctx)?);
     }

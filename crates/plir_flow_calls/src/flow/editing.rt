@@ -2,7 +2,6 @@
 ghost use Rattle.plir_core.specs.ContextView.{IsLive};
 ghost use Rattle.plir_core.specs.declared.ptr.IRNode.{IRNode as AnyNode};
 
-use crate::flow::flow_call::SegmentEdit;
 use plir_core::Context;
 use plir_data::OpSet;
 use plir_flow::OperandSegmentInterface;
@@ -15,16 +14,15 @@ pub fn edit<D: OpSet, O: OperandSegmentInterface<D>>(
     made: &Made,
     answer: &mut Answer,
     op: &O,
-    kind: SegmentEdit,
     line: Line<'_>,
 ) -> Result<(), Stop>
     requires { IsLive ctx.old (AnyNode.Operation (O.pointer op.now)) }
 {
-    match kind {
-        SegmentEdit::Push => push(ctx, made, answer, op, line),
-        SegmentEdit::Into => into(ctx, made, op, line),
-        SegmentEdit::Pop => pop(ctx, made, answer, op, line),
-        SegmentEdit::From => from(ctx, made, answer, op, line),
+    match line.command {
+        "push" => push(ctx, made, answer, op, line),
+        "into" => into(ctx, made, op, line),
+        "pop" => pop(ctx, made, answer, op, line),
+        _ => from(ctx, made, answer, op, line),
     }
 }
 

@@ -4,26 +4,27 @@ ghost use Rattle.plir_core.specs.ContextView.{IsLive};
 ghost use Rattle.plir_core.specs.declared.ptr.IRNode.{IRNode as AnyNode};
 
 use crate::flow::grouped::Grouped;
-use crate::sizes::{put_range, sizes_of};
 use plir_core::{Context, Value};
-use plir_data::{FunctionTypeMark, Memory, OpSet, OperandSegmentSizesAttr, UnitType};
+use plir_data::{FunctionTypeMark, Memory, OpSet, OperandSegmentSizesAttr, UnitType, VerifyErr};
 use plir_flow::{OperandSegmentInterface, SegmentNImplsTy, SegmentNOfType};
 use plir_scripts::{Answer, Bench, Line, Made, Stop, number, split_word};
 use std::alloc::Global;
-use std::ops::Range;
+use std::fmt::Display;
+
+/// Writes `ok`, or the text of the refusal.
+pub fn put_verdict<E: Display + Drop>(answer: &mut Answer, verdict: Result<(), VerifyErr<E>>) {
+    match verdict {
+        Ok(()) => answer.put("ok"),
+        Err(VerifyErr::Refused { err, .. }) => answer.put_shown(&err),
+        Err(VerifyErr::Memory) => answer.note_lost(),
+    }
+}
 
 /// Writes the names of values.
 pub fn put_values(made: &Made, answer: &mut Answer, values: &[Value]) {
     for value in values {
         made.put_value(answer, *value);
     }
-}
-
-/// Writes places, and the values that stand there.
-pub fn put_placed(made: &Made, answer: &mut Answer, range: Range<usize>, values: &[Value]) {
-    put_range(answer, range);
-    answer.put(":");
-    put_values(made, answer, values);
 }
 
 // Writes sizes.
@@ -42,88 +43,57 @@ pub fn verify<D: OpSet, O: OperandSegmentInterface<D>>(
 ) -> Result<(), Stop>
     requires { IsLive ctx.now (AnyNode.Operation (O.pointer op.now)) }
 {
-    answer.put_verdict(OperandSegmentInterface::<D>::verify(op, ctx));
+    put_verdict(answer, OperandSegmentInterface::<D>::verify(op, ctx));
     Ok(())
 }
 
-/// The rules of the types in one segment.
-#[derive(Clone, Copy)]
-pub enum TypeRule {
-    /// `SegmentNOfType<1, Unit>`.
-    SecondOfUnit,
-    /// `SegmentNOfType<2, Unit>`.
-    ThirdOfUnit,
-    /// `SegmentNImplsTy<1, Function>`.
-    SecondOfFunction,
-}
-
-impl TypeRule {
-    /// The rule of a name.
-    pub fn of(name: &str) -> Result<Self, Stop> {
-        match name {
-            "SegmentNOfType<1, Unit>" => Ok(TypeRule::SecondOfUnit),
-            "SegmentNOfType<2, Unit>" => Ok(TypeRule::ThirdOfUnit),
-            "SegmentNImplsTy<1, Function>" => Ok(TypeRule::SecondOfFunction),
-            _ => Err(Stop::Refused),
-        }
-    }
-}
-
-/// `segment-types OP RULE` verifies by a rule.
+/// `types OP RULE`: the rules of the types in one segment.
 pub fn verify_types<
     D: OpSet,
     O: SegmentNOfType<D, 1, UnitType>
         + SegmentNOfType<D, 2, UnitType>
         + SegmentNImplsTy<D, 1, FunctionTypeMark>,
->(alloc: Global, ctx: &Context<D>, answer: &mut Answer, op: &O, rule: TypeRule) -> Result<(), Stop>
+>(alloc: Global, ctx: &Context<D>, answer: &mut Answer, op: &O, rule: &str) -> Result<(), Stop>
     requires { IsLive ctx.now (AnyNode.Operation (O.pointer op.now)) }
 {
     if OperandSegmentInterface::<D>::verify(op, ctx).is_err() {
         return Err(Stop::Refused);
     }
     match rule {
-        TypeRule::SecondOfUnit => answer.put_verdict(SegmentNOfType::<D, 1, UnitType>::verify(
-            op, alloc, ctx,
-        )),
-        TypeRule::ThirdOfUnit => answer.put_verdict(SegmentNOfType::<D, 2, UnitType>::verify(
-            op, alloc, ctx,
-        )),
-        TypeRule::SecondOfFunction => answer.put_verdict(SegmentNImplsTy::<
-            D,
-            1,
-            FunctionTypeMark,
-        >::verify(op, ctx)),
+        "SegmentNOfType<1, Unit>" => put_verdict(
+            answer,
+            SegmentNOfType::<D, 1, UnitType>::verify(op, alloc, ctx),
+        ),
+        "SegmentNOfType<2, Unit>" => put_verdict(
+            answer,
+            SegmentNOfType::<D, 2, UnitType>::verify(op, alloc, ctx),
+        ),
+        "SegmentNImplsTy<1, Function>" => put_verdict(
+            answer,
+            SegmentNImplsTy::<D, 1, FunctionTypeMark>::verify(op, ctx),
+        ),
+        _ => return Err(Stop::Refused),
     }
     Ok(())
 }
 
-/// `segments OP` writes how many segments there are.
-pub fn ask_count<D: OpSet, O: OperandSegmentInterface<D>>(
-    ctx: &Context<D>,
-    answer: &mut Answer,
-    op: &O,
-) -> Result<(), Stop>
-    requires { IsLive ctx.now (AnyNode.Operation (O.pointer op.now)) }
-{
-    if OperandSegmentInterface::<D>::verify(op, ctx).is_err() {
-        return Err(Stop::Refused);
-    }
-    let count = op.num_segments(ctx);
-    answer.put_number(count as usize);
-    Ok(())
-}
-
-/// `held OP` writes the operands and the sizes.
-pub fn ask_held<D: OpSet, O: OperandSegmentInterface<D>>(
+/// `segments OP` writes how many segments there are, `held OP` the operands and the sizes.
+pub fn ask_all<D: OpSet, O: OperandSegmentInterface<D>>(
     ctx: &Context<D>,
     made: &Made,
     answer: &mut Answer,
     op: &O,
+    what: &str,
 ) -> Result<(), Stop>
     requires { IsLive ctx.now (AnyNode.Operation (O.pointer op.now)) }
 {
     if OperandSegmentInterface::<D>::verify(op, ctx).is_err() {
         return Err(Stop::Refused);
+    }
+    if what == "segments" {
+        let count = op.num_segments(ctx);
+        answer.put_number(count as usize);
+        return Ok(());
     }
     let held = op.get_operation();
     for place in 0..held.get_num_operands(ctx) {
@@ -167,7 +137,12 @@ pub fn ask_segment<D: OpSet, O: OperandSegmentInterface<D>>(
     }
     let values = op.get_segment(alloc, ctx, seg)?;
     let range = op.segment_range(ctx, seg);
-    put_placed(made, answer, range, values.as_slice());
+    let (start, end) = (range.start, range.end);
+    answer.put_number(start);
+    answer.put(" to ");
+    answer.put_number(end);
+    answer.put(":");
+    put_values(made, answer, values.as_slice());
     Ok(())
 }
 
@@ -206,9 +181,16 @@ pub fn set_sizes<D: OpSet, O: OperandSegmentInterface<D>>(
 ) -> Result<(), Stop>
     requires { IsLive bench.old.ctx (AnyNode.Operation (O.pointer op.now)) }
 {
+    let alloc = bench.alloc;
+    let mut sizes = Vec::new(alloc);
     let (_, words) = split_word(line.text);
-    let sizes = sizes_of(bench.alloc, words)?;
-    op.set_operand_segment_sizes(bench.alloc, &mut bench.ctx, sizes)?;
+    for word in words.split_whitespace() {
+        let Ok(size) = word.parse::<u32>() else {
+            return Err(Stop::Refused);
+        };
+        sizes.push(size)?;
+    }
+    op.set_operand_segment_sizes(alloc, &mut bench.ctx, OperandSegmentSizesAttr(sizes))?;
     Ok(())
 }
 

@@ -2,7 +2,6 @@
 ghost use Rattle.plir_core.specs.ContextView.{IsLive};
 ghost use Rattle.plir_core.specs.declared.ptr.IRNode.{IRNode as AnyNode};
 
-use crate::sizes::put_range;
 use plir_core::{Context, Operation, Ptr};
 use plir_data::Identifier;
 use plir_flow::{CallOpCallable, RegionBranchPoint, RegionEdge, RegionSuccessor};
@@ -34,7 +33,12 @@ pub fn ask_call<D: CallSet>(bench: &mut Bench<D>, op: Ptr<Operation>) -> Result<
 // Writes places.
 fn put_places(answer: &mut Answer, range: Option<Range<usize>>) {
     match range {
-        Some(range) => put_range(answer, range),
+        Some(range) => {
+            let (start, end) = (range.start, range.end);
+            answer.put_number(start);
+            answer.put(" to ");
+            answer.put_number(end);
+        }
         None => answer.put("none"),
     }
 }

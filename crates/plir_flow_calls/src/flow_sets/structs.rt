@@ -3,7 +3,6 @@ ghost use Rattle.plir_core.specs.ContextView.{IsLive};
 ghost use Rattle.plir_core.specs.declared.ptr.IRNode.{IRNode as AnyNode};
 
 use crate::flow_sets::asking::put_edges;
-use crate::flow_sets::flow_call::BranchEdit;
 use plir_flow::{BranchOpInterface, CallOpCallable, CallOpInterface, RegionBranchOpInterface};
 use plir_flow_sets::{BranchSet, CallSet, RegionEdgeSet, ToldBranch, ToldCall, ToldRegionEdges};
 use plir_iface::Op;
@@ -55,7 +54,6 @@ pub fn ask_branch<D: BranchSet, B: ToldBranch<D>>(
 pub fn edit_branch<D: BranchSet, B: ToldBranch<D>>(
     bench: &mut Bench<D>,
     branch: &B,
-    edit: BranchEdit,
     line: Line<'_>,
 ) -> Result<(), Stop>
     requires { IsLive bench.old.ctx (AnyNode.Operation (B.pointer branch.now)) }
@@ -68,24 +66,21 @@ pub fn edit_branch<D: BranchSet, B: ToldBranch<D>>(
         return Err(Stop::Refused);
     }
     let count = branch.successor_operands(alloc, ctx, successor)?.len();
-    match edit {
-        BranchEdit::Drop => {
-            let place = number(line.third)?;
-            if place >= count {
-                return Err(Stop::Refused);
-            }
-            let value = branch.remove_successor_operand(ctx, successor, place);
-            made.put_value(answer, value);
+    if line.command == "drop" {
+        let place = number(line.third)?;
+        if place >= count {
+            return Err(Stop::Refused);
         }
-        BranchEdit::Add => {
-            let value = made.value(ctx, line.third)?;
-            if count >= 1000 {
-                return Err(Stop::Refused);
-            }
-            let place = branch.add_successor_operand(ctx, successor, value)?;
-            answer.put_number(place);
-        }
+        let value = branch.remove_successor_operand(ctx, successor, place);
+        made.put_value(answer, value);
+        return Ok(());
     }
+    let value = made.value(ctx, line.third)?;
+    if count >= 1000 {
+        return Err(Stop::Refused);
+    }
+    let place = branch.add_successor_operand(ctx, successor, value)?;
+    answer.put_number(place);
     Ok(())
 }
 

@@ -2,7 +2,6 @@
 use crate::attr_text::reading::{
     ask_attr, ask_type, read, read_beginnings, read_nested, show_fault,
 };
-use crate::attr_text::text_call::TextCall;
 use crate::attr_text::writable::{ask_levels, ask_writable, read_back, write};
 use plir_scripts::{Bench, Layer, Line, Mismatch, NodeCalls, OwnSet, SampleSet, Stop, play};
 use std::alloc::Global;
@@ -12,20 +11,18 @@ struct TextCalls;
 
 impl<D: OwnSet> Layer<D> for TextCalls {
     fn run(bench: &mut Bench<D>, line: Line<'_>) -> Result<(), Stop> {
-        let Some(call) = TextCall::of(line.command) else {
-            return NodeCalls::run(bench, line);
-        };
-        match call {
-            TextCall::ReadType(reader) => read(bench, reader, line),
-            TextCall::ReadAttr(question) => ask_attr(bench, question, line),
-            TextCall::TypedAttr => ask_type(bench, line),
-            TextCall::Writable => ask_writable(bench, line),
-            TextCall::Written => write(bench, line),
-            TextCall::Within => ask_levels(bench, line),
-            TextCall::ReadBack => read_back(bench, line),
-            TextCall::Nested(subject) => read_nested(bench, subject, line),
-            TextCall::Beginnings(subject) => read_beginnings(bench, subject, line),
-            TextCall::Fault => show_fault(bench, line),
+        match line.command {
+            "read-type" | "read-integer" | "read-function" => read(bench, line),
+            "attr" | "verify" => ask_attr(bench, line),
+            "typed-attr" => ask_type(bench, line),
+            "writable" => ask_writable(bench, line),
+            "written" => write(bench, line),
+            "within" => ask_levels(bench, line),
+            "read-back" => read_back(bench, line),
+            "nested-attr" | "nested-type" => read_nested(bench, line),
+            "beginnings-attr" | "beginnings-type" => read_beginnings(bench, line),
+            "fault" => show_fault(bench, line),
+            _ => NodeCalls::run(bench, line),
         }
     }
 }

@@ -1,5 +1,4 @@
 //! The scripts of types and attributes, with their answers.
-use crate::data::data_call::{AttrCall, DataCall, TypeCall};
 use crate::data::entries::{compare_hashes, on_entry, put};
 use crate::data::numbers::{
     ask_identifier, compare_bits, compare_identifiers, copy_identifier, keep_bits,
@@ -16,44 +15,30 @@ struct DataCalls;
 
 impl<D: OwnSet> Layer<D> for DataCalls {
     fn run(bench: &mut Bench<D>, line: Line<'_>) -> Result<(), Stop> {
-        let Some(call) = DataCall::of(line.command) else {
-            return NodeCalls::run(bench, line);
-        };
-        match call {
-            DataCall::KeepBits(sign) => keep_bits(bench, sign, line),
-            DataCall::SameBits => compare_bits(bench, line),
-            DataCall::IsIdentifier => ask_identifier(bench, line),
-            DataCall::Identifier => copy_identifier(bench, line),
-            DataCall::ComesBefore => compare_identifiers(bench, line),
-            DataCall::Type(call) => ask_types(bench, call, line),
-            DataCall::Attr(call) => ask_attrs(bench, call, line),
-            DataCall::Put => put(bench, line),
-            DataCall::Entry(call) => on_entry(bench, call, line),
-            DataCall::HashAlike => compare_hashes(bench, line),
+        match line.command {
+            "unsigned" | "signed" => keep_bits(bench, line),
+            "same-bits" => compare_bits(bench, line),
+            "is-identifier" => ask_identifier(bench, line),
+            "identifier" => copy_identifier(bench, line),
+            "comes-before" => compare_identifiers(bench, line),
+            "own-type" => make_own(bench, line),
+            "types" => count(bench),
+            "parts" => show_parts(bench, line),
+            "marks" => show_marks(bench, line),
+            "put-parts" => put_parts(bench, line),
+            "copy" => copy(bench, line),
+            "copy-inside" => copy_inside(bench, line),
+            "copy-entries" => copy_entries(bench, line),
+            "same" => compare(bench, line),
+            "outlined" => ask_outlined(bench, line),
+            "type-of" => ask_type(bench, line),
+            "held-type" => ask_held_type(bench, line),
+            "verdict" => verify(bench, line),
+            "put" => put(bench, line),
+            "lookup" | "lend" | "without" | "take" => on_entry(bench, line),
+            "hash-alike" => compare_hashes(bench, line),
+            _ => NodeCalls::run(bench, line),
         }
-    }
-}
-
-fn ask_types<D: OwnSet>(bench: &mut Bench<D>, call: TypeCall, line: Line<'_>) -> Result<(), Stop> {
-    match call {
-        TypeCall::Own => make_own(bench, line),
-        TypeCall::Count => count(bench),
-        TypeCall::Parts => show_parts(bench, line),
-        TypeCall::Marks => show_marks(bench, line),
-        TypeCall::PutParts => put_parts(bench, line),
-    }
-}
-
-fn ask_attrs<D: OwnSet>(bench: &mut Bench<D>, call: AttrCall, line: Line<'_>) -> Result<(), Stop> {
-    match call {
-        AttrCall::Copy => copy(bench, line),
-        AttrCall::CopyInside => copy_inside(bench, line),
-        AttrCall::CopyEntries => copy_entries(bench, line),
-        AttrCall::Same => compare(bench, line),
-        AttrCall::Outlined => ask_outlined(bench, line),
-        AttrCall::TypeOf => ask_type(bench, line),
-        AttrCall::HeldType => ask_held_type(bench, line),
-        AttrCall::Verdict => verify(bench, line),
     }
 }
 

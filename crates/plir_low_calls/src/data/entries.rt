@@ -3,7 +3,6 @@ ghost use Rattle.std.specs.Prelude.{◌≡◌, None, IsSome};
 ghost use Rattle.plir_data.specs.AttrView.{leaf, unit};
 ghost use Rattle.plir_data.specs.Dictionary.{dict_get, dict_put};
 
-use crate::data::data_call::EntryCall;
 use crate::data::values::put_value;
 use plir_data::laws::equal_dictionaries_hash_alike;
 use plir_data::{AttrObj, AttributeDict, DictAttr, Identifier, OpSet, UnitAttr};
@@ -42,36 +41,32 @@ fn with_entry<D: OwnSet>(
 
 /// `lookup KEY DICT`, `lend KEY DICT`, `without KEY DICT` or `take KEY DICT`: what stands under a key, and what becomes
 /// of the dictionary.
-pub fn on_entry<D: OwnSet>(
-    bench: &mut Bench<D>,
-    call: EntryCall,
-    line: Line<'_>,
-) -> Result<(), Stop> {
+pub fn on_entry<D: OwnSet>(bench: &mut Bench<D>, line: Line<'_>) -> Result<(), Stop> {
     let (_, written) = split_word(line.text);
     let key = Identifier::try_new(bench.alloc, line.first)?;
     let mut dict = dict_of(bench, written)?;
-    if has_changed(bench, call, &mut dict, &key)? {
+    if has_changed(bench, line.command, &mut dict, &key)? {
         put_value(bench, &AttrObj::Dict(dict))
     } else {
         Ok(())
     }
 }
 
-// Does what a line says; false where its answer is written then.
+// Does what a command says; false where its answer is written then.
 fn has_changed<D: OpSet>(
     bench: &mut Bench<D>,
-    call: EntryCall,
+    command: &str,
     dict: &mut DictAttr<D>,
     key: &Identifier,
 ) -> Result<bool, Stop> {
-    match call {
-        EntryCall::Lend => put_unit(dict, key),
-        EntryCall::Without => dict.remove(key),
-        EntryCall::Lookup => {
+    match command {
+        "lend" => put_unit(dict, key),
+        "without" => dict.remove(key),
+        "lookup" => {
             put_found(bench, dict, key)?;
             return Ok(false);
         }
-        EntryCall::Take => {
+        _ => {
             take(bench, &mut dict.0, key.as_str())?;
             return Ok(false);
         }

@@ -1,5 +1,4 @@
 //! The calls on integers of some bits, and on identifiers.
-use crate::data::data_call::Sign;
 use plir_data::{APInt, Identifier, OpSet, is_identifier};
 use plir_scripts::{Answer, Bench, Line, Stop, split_word};
 use std::alloc::Global;
@@ -10,25 +9,21 @@ fn width_of(word: &str) -> Result<u32, Stop> {
 }
 
 // The integer of a number without a sign, or of one with a sign.
-fn integer_of(sign: Sign, value: &str, width: &str) -> Result<Option<APInt>, Stop> {
+fn integer_of(is_signed: bool, value: &str, width: &str) -> Result<Option<APInt>, Stop> {
     let width = width_of(width)?;
-    match sign {
-        Sign::Signed => {
-            let value = value.parse::<i64>().map_err(|_| Stop::Refused)?;
-            Ok(APInt::from_i64(value, width))
-        }
-        Sign::Unsigned => {
-            let value = value.parse::<u64>().map_err(|_| Stop::Refused)?;
-            Ok(APInt::from_u64(value, width))
-        }
+    if is_signed {
+        let value = value.parse::<i64>().map_err(|_| Stop::Refused)?;
+        return Ok(APInt::from_i64(value, width));
     }
+    let value = value.parse::<u64>().map_err(|_| Stop::Refused)?;
+    Ok(APInt::from_u64(value, width))
 }
 
 /// `unsigned VALUE WIDTH` or `signed VALUE WIDTH`: writes what is kept in so many bits, `none` where no integer has
 /// them.
-pub fn keep_bits<D: OpSet>(bench: &mut Bench<D>, sign: Sign, line: Line<'_>) -> Result<(), Stop> {
+pub fn keep_bits<D: OpSet>(bench: &mut Bench<D>, line: Line<'_>) -> Result<(), Stop> {
     let answer = &mut bench.answer;
-    match integer_of(sign, line.first, line.second)? {
+    match integer_of(line.command == "signed", line.first, line.second)? {
         Some(kept) => put_bits(bench.alloc, answer, kept),
         None => answer.put("none"),
     }
@@ -53,8 +48,8 @@ fn put_bits(alloc: Global, answer: &mut Answer, kept: APInt) {
 /// `same-bits VALUE WIDTH VALUE WIDTH`: writes whether the two integers are equal.
 pub fn compare_bits<D: OpSet>(bench: &mut Bench<D>, line: Line<'_>) -> Result<(), Stop> {
     let (value, width) = split_word(line.tail);
-    let one = integer_of(Sign::Unsigned, line.first, line.second)?;
-    let other = integer_of(Sign::Unsigned, value, width)?;
+    let one = integer_of(false, line.first, line.second)?;
+    let other = integer_of(false, value, width)?;
     bench.answer.put_truth(one == other);
     Ok(())
 }

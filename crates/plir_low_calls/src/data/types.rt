@@ -6,14 +6,10 @@ use plir_data::{
 };
 use plir_scripts::{Bench, Line, OwnSet, Stop, put_type_name};
 
-fn is_wide(word: &str) -> bool {
-    word == "wide"
-}
-
 /// `own-type narrow` or `own-type wide`: writes the name of the type.
 pub fn make_own<D: OwnSet>(bench: &mut Bench<D>, line: Line<'_>) -> Result<(), Stop> {
     bench.made.types.reserve(1)?;
-    let value = TypeObj::Own(D::own_type(is_wide(line.first)));
+    let value = TypeObj::Own(D::own_type(line.first == "wide"));
     if !value.is_live(&bench.ctx) {
         return Err(Stop::Refused);
     }

@@ -2,8 +2,7 @@
 ghost use Rattle.plir_core.specs.ContextView.{IsLive};
 ghost use Rattle.plir_core.specs.declared.ptr.IRNode.{IRNode as AnyNode};
 
-use crate::iface::accessors::{CountedAccessor, CountedPart, FreeAccessor, RegionAccessor};
-use plir_core::{BasicBlock, Context, LessThanN, Ptr, Region, Value};
+use plir_core::{Context, LessThanN, Value};
 use plir_data::{OpSet, TypeHandle};
 use plir_iface::{
     AtMostOneRegionInterface, NOpdsInterface, NRegionsInterface, NResultsInterface,
@@ -12,7 +11,6 @@ use plir_iface::{
     SameResultsType, SingleBlockRegionInterface, verify_get_operand_n, verify_get_result_n,
 };
 use plir_scripts::{Answer, Made, Stop};
-use std::fmt::Display;
 
 // Writes the name of a type, or `-` for none.
 fn put_type(made: &Made, answer: &mut Answer, handle: Option<TypeHandle>) {
@@ -37,129 +35,92 @@ fn put_value(made: &Made, answer: &mut Answer, value: Option<Value>) {
     }
 }
 
-// Writes the name of a value, or the text of the refusal.
-fn put_verified<E: Display + Drop>(made: &Made, answer: &mut Answer, found: Result<Value, E>) {
-    match found {
-        Ok(value) => made.put_value(answer, value),
-        Err(refusal) => answer.put_shown(&refusal),
-    }
-}
-
-/// What an accessor finds.
-#[derive(Clone, Copy)]
-pub enum Found {
-    Value(Value),
-    Type(TypeHandle),
-    Region(Ptr<Region>),
-    Block(Ptr<BasicBlock>),
-}
-
-/// Writes what is found; refused where nothing is.
-pub fn put_found(made: &Made, answer: &mut Answer, found: Option<Found>) -> Result<(), Stop> {
-    match found {
-        None => return Err(Stop::Refused),
-        Some(Found::Value(value)) => made.put_value(answer, value),
-        Some(Found::Type(handle)) => put_type(made, answer, Some(handle)),
-        Some(Found::Region(region)) => made.put_region(answer, Some(region)),
-        Some(Found::Block(block)) => made.put_block(answer, Some(block)),
+/// The accessors of two results or operands and of one: the last of two.
+pub fn ask_counted<
+    D: OpSet,
+    O: NResultsInterface<D, 2> + NOpdsInterface<D, 2> + OneResultInterface<D> + OneOpdInterface<D>,
+>(ctx: &Context<D>, made: &Made, answer: &mut Answer, op: &O, name: &str) -> Result<(), Stop>
+    requires { IsLive ctx.now (AnyNode.Operation (O.pointer op.now)) }
+{
+    let last: LessThanN<2> = LessThanN::new(1).ok_or(Stop::Refused)?;
+    match name {
+        "OneResult.get_result" if OneResultInterface::<D>::verify(op, ctx).is_ok() => {
+            made.put_value(answer, OneResultInterface::<D>::get_result(op, ctx))
+        }
+        "OneOpd.get_operand" if OneOpdInterface::<D>::verify(op, ctx).is_ok() => {
+            made.put_value(answer, OneOpdInterface::<D>::get_operand(op, ctx))
+        }
+        "OneResult.result_type" if OneResultInterface::<D>::verify(op, ctx).is_ok() => {
+            put_type(
+                made,
+                answer,
+                Some(OneResultInterface::<D>::result_type(op, ctx)),
+            )
+        }
+        "OneOpd.operand_type" if OneOpdInterface::<D>::verify(op, ctx).is_ok() => {
+            put_type(
+                made,
+                answer,
+                Some(OneOpdInterface::<D>::operand_type(op, ctx)),
+            )
+        }
+        "NResults<2>.get_result_i" if NResultsInterface::<D, 2>::verify(op, ctx).is_ok() => {
+            made.put_value(
+                answer,
+                NResultsInterface::<D, 2>::get_result_i(op, ctx, last),
+            )
+        }
+        "NOpds<2>.get_operand_i" if NOpdsInterface::<D, 2>::verify(op, ctx).is_ok() => {
+            made.put_value(answer, NOpdsInterface::<D, 2>::get_operand_i(op, ctx, last))
+        }
+        "NResults<2>.result_type_i" if NResultsInterface::<D, 2>::verify(op, ctx).is_ok() => {
+            put_type(
+                made,
+                answer,
+                Some(NResultsInterface::<D, 2>::result_type_i(op, ctx, last)),
+            )
+        }
+        "NOpds<2>.operand_type_i" if NOpdsInterface::<D, 2>::verify(op, ctx).is_ok() => {
+            put_type(
+                made,
+                answer,
+                Some(NOpdsInterface::<D, 2>::operand_type_i(op, ctx, last)),
+            )
+        }
+        _ => return Err(Stop::Refused),
     }
     Ok(())
 }
 
-/// What an accessor of results and operands finds.
-pub fn find_counted<
-    D: OpSet,
-    O: NResultsInterface<D, 2> + NOpdsInterface<D, 2> + OneResultInterface<D> + OneOpdInterface<D>,
->(ctx: &Context<D>, op: &O, accessor: CountedAccessor) -> Option<Found>
-    requires { IsLive ctx.now (AnyNode.Operation (O.pointer op.now)) }
-{
-    match accessor {
-        CountedAccessor::One(asked) => find_one(ctx, op, asked),
-        CountedAccessor::LastOfTwo(asked) => find_last(ctx, op, asked),
-    }
-}
-
-// What is asked of the one result or operand, if there is one.
-fn find_one<D: OpSet, O: OneResultInterface<D> + OneOpdInterface<D>>(
-    ctx: &Context<D>,
-    op: &O,
-    asked: CountedPart,
-) -> Option<Found>
-    requires { IsLive ctx.now (AnyNode.Operation (O.pointer op.now)) }
-{
-    match asked {
-        CountedPart::Result if OneResultInterface::<D>::verify(op, ctx).is_ok() => {
-            Some(Found::Value(OneResultInterface::<D>::get_result(op, ctx)))
-        }
-        CountedPart::Operand if OneOpdInterface::<D>::verify(op, ctx).is_ok() => {
-            Some(Found::Value(OneOpdInterface::<D>::get_operand(op, ctx)))
-        }
-        CountedPart::ResultType if OneResultInterface::<D>::verify(op, ctx).is_ok() => {
-            Some(Found::Type(OneResultInterface::<D>::result_type(op, ctx)))
-        }
-        CountedPart::OperandType if OneOpdInterface::<D>::verify(op, ctx).is_ok() => {
-            Some(Found::Type(OneOpdInterface::<D>::operand_type(op, ctx)))
-        }
-        _ => None,
-    }
-}
-
-// What is asked of the last of two results or operands, if there are two.
-fn find_last<D: OpSet, O: NResultsInterface<D, 2> + NOpdsInterface<D, 2>>(
-    ctx: &Context<D>,
-    op: &O,
-    asked: CountedPart,
-) -> Option<Found>
-    requires { IsLive ctx.now (AnyNode.Operation (O.pointer op.now)) }
-{
-    let last: LessThanN<2> = LessThanN::new(1)?;
-    match asked {
-        CountedPart::Result if NResultsInterface::<D, 2>::verify(op, ctx).is_ok() => Some(
-            Found::Value(NResultsInterface::<D, 2>::get_result_i(op, ctx, last)),
-        ),
-        CountedPart::Operand if NOpdsInterface::<D, 2>::verify(op, ctx).is_ok() => Some(
-            Found::Value(NOpdsInterface::<D, 2>::get_operand_i(op, ctx, last)),
-        ),
-        CountedPart::ResultType if NResultsInterface::<D, 2>::verify(op, ctx).is_ok() => Some(
-            Found::Type(NResultsInterface::<D, 2>::result_type_i(op, ctx, last)),
-        ),
-        CountedPart::OperandType if NOpdsInterface::<D, 2>::verify(op, ctx).is_ok() => Some(
-            Found::Type(NOpdsInterface::<D, 2>::operand_type_i(op, ctx, last)),
-        ),
-        _ => None,
-    }
-}
-
-/// What an accessor of regions finds: the one, the last of two, or the block of the one.
-pub fn find_region<
+/// The accessors of regions.
+pub fn ask_regions<
     D: OpSet,
     O: OneRegionInterface<D> + NRegionsInterface<D, 2> + SingleBlockRegionInterface<D>,
->(ctx: &Context<D>, op: &O, accessor: RegionAccessor) -> Option<Found>
+>(ctx: &Context<D>, made: &Made, answer: &mut Answer, op: &O, name: &str) -> Result<(), Stop>
     requires { IsLive ctx.now (AnyNode.Operation (O.pointer op.now)) }
 {
-    let last: LessThanN<2> = LessThanN::new(1)?;
-    match accessor {
-        RegionAccessor::OneRegion if OneRegionInterface::<D>::verify(op, ctx).is_ok() => {
-            Some(Found::Region(OneRegionInterface::<D>::get_region(op, ctx)))
+    let last: LessThanN<2> = LessThanN::new(1).ok_or(Stop::Refused)?;
+    let region = match name {
+        "OneRegion.get_region" if OneRegionInterface::<D>::verify(op, ctx).is_ok() => {
+            OneRegionInterface::<D>::get_region(op, ctx)
         }
-        RegionAccessor::NRegions if NRegionsInterface::<D, 2>::verify(op, ctx).is_ok() => {
-            Some(Found::Region(NRegionsInterface::<D, 2>::get_region_i(op, ctx, last)))
+        "NRegions<2>.get_region_i" if NRegionsInterface::<D, 2>::verify(op, ctx).is_ok() => {
+            NRegionsInterface::<D, 2>::get_region_i(op, ctx, last)
         }
-        RegionAccessor::SingleBlockRegion => find_body(ctx, op),
-        _ => None,
-    }
-}
-
-// The one block of the first region.
-fn find_body<D: OpSet, O: SingleBlockRegionInterface<D>>(ctx: &Context<D>, op: &O) -> Option<Found>
-    requires { IsLive ctx.now (AnyNode.Operation (O.pointer op.now)) }
-{
-    if SingleBlockRegionInterface::<D>::verify(op, ctx).is_err()
-        || op.get_operation().num_regions(ctx) == 0
-    {
-        return None;
-    }
-    Some(Found::Block(SingleBlockRegionInterface::<D>::get_body(op, ctx, 0)))
+        "SingleBlockRegion.get_body" => {
+            if SingleBlockRegionInterface::<D>::verify(op, ctx).is_err()
+                || op.get_operation().num_regions(ctx) == 0
+            {
+                return Err(Stop::Refused);
+            }
+            let body = SingleBlockRegionInterface::<D>::get_body(op, ctx, 0);
+            made.put_block(answer, Some(body));
+            return Ok(());
+        }
+        _ => return Err(Stop::Refused),
+    };
+    made.put_region(answer, Some(region));
+    Ok(())
 }
 
 /// The accessors that have no condition.
@@ -170,31 +131,34 @@ pub fn ask_freely<
         + SameOperandsAndResultType<D>
         + AtMostOneRegionInterface<D>
         + RegionKindInterface<D>,
->(ctx: &Context<D>, made: &Made, answer: &mut Answer, op: &O, accessor: FreeAccessor)
+>(ctx: &Context<D>, made: &Made, answer: &mut Answer, op: &O, name: &str) -> Result<(), Stop>
     requires { IsLive ctx.now (AnyNode.Operation (O.pointer op.now)) }
 {
-    match accessor {
-        FreeAccessor::GetResultOpt => put_value(made, answer, op.get_result_opt(ctx)),
-        FreeAccessor::GetOperandOpt => put_value(made, answer, op.get_operand_opt(ctx)),
-        FreeAccessor::CommonOperandType => put_type(made, answer, op.common_operand_type(ctx)),
-        FreeAccessor::CommonResultType => put_type(made, answer, op.common_result_type(ctx)),
-        FreeAccessor::CommonType => put_type(made, answer, op.common_type(ctx)),
-        FreeAccessor::GetRegion => made.put_region(
+    match name {
+        "OptionalResult.get_result_opt" => put_value(made, answer, op.get_result_opt(ctx)),
+        "OptionalOpd.get_operand_opt" => put_value(made, answer, op.get_operand_opt(ctx)),
+        "common_operand_type" => put_type(made, answer, op.common_operand_type(ctx)),
+        "common_result_type" => put_type(made, answer, op.common_result_type(ctx)),
+        "common_type" => put_type(made, answer, op.common_type(ctx)),
+        "AtMostOneRegion.get_region" => made.put_region(
             answer,
             AtMostOneRegionInterface::<D>::get_region(op, ctx),
         ),
-        FreeAccessor::HasSSADominance(place) => answer.put_truth(RegionKindInterface::<
-            D,
-        >::has_ssa_dominance(op, place)),
-        FreeAccessor::VerifyGetOperandN => put_verified(
-            made,
-            answer,
-            verify_get_operand_n::<D, 2>(op.get_operation(), ctx),
-        ),
-        FreeAccessor::VerifyGetResultN => put_verified(
-            made,
-            answer,
-            verify_get_result_n::<D, 0>(op.get_operation(), ctx),
-        ),
+        "has_ssa_dominance(0)" => answer.put_truth(RegionKindInterface::<D>::has_ssa_dominance(
+            op, 0,
+        )),
+        "has_ssa_dominance(1)" => answer.put_truth(RegionKindInterface::<D>::has_ssa_dominance(
+            op, 1,
+        )),
+        "verify_get_operand_n<2>" => match verify_get_operand_n::<D, 2>(op.get_operation(), ctx) {
+            Ok(value) => made.put_value(answer, value),
+            Err(refusal) => answer.put_shown(&refusal),
+        },
+        "verify_get_result_n<0>" => match verify_get_result_n::<D, 0>(op.get_operation(), ctx) {
+            Ok(value) => made.put_value(answer, value),
+            Err(refusal) => answer.put_shown(&refusal),
+        },
+        _ => return Err(Stop::Refused),
     }
+    Ok(())
 }

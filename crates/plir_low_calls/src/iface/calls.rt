@@ -1,85 +1,28 @@
 //! The scripts of interfaces, with their answers.
-ghost use Rattle.plir_core.specs.ContextView.{IsLive};
-ghost use Rattle.plir_core.specs.declared.ptr.IRNode.{IRNode as AnyNode};
-
-use crate::iface::accessors::{CountedAccessor, FreeAccessor, RegionAccessor};
 use crate::iface::any_op::AnyOp;
 use crate::iface::appending::append;
-use crate::iface::asking::{ask_freely, find_counted, find_region, put_found};
-use crate::iface::rules::{CountRule, PlaceRule, TypeRule};
-use crate::iface::verifying::{
-    verify_marks, verify_operands, verify_places, verify_regions, verify_results, verify_types,
-};
-use plir_core::Context;
+use crate::iface::asking::{ask_counted, ask_freely, ask_regions};
+use crate::iface::verifying::{verify_counts, verify_places, verify_types};
 use plir_data::OpSet;
 use plir_iface::{IndexRange, resolve_index_range};
 use plir_scripts::{
-    Answer, Bench, Layer, Line, Mismatch, NodeCalls, SampleSet, ScriptSet, Stop, number, play,
+    Bench, Layer, Line, Mismatch, NodeCalls, SampleSet, ScriptSet, Stop, number, play,
 };
 use std::alloc::Global;
 
-// A call on interfaces, by its command.
-#[derive(Clone, Copy)]
-enum InterfaceCall {
-    // `resolve M N LENGTH` asks for a range of places.
-    Resolve,
-    // `append OP OTHER` puts an operation into the body.
-    Append,
-    // Verifies by an interface.
-    Verify(Interfaces),
-    // Asks by an accessor.
-    Ask(Accessors),
-}
-
-// Among which interfaces the one of a name is.
-#[derive(Clone, Copy)]
-enum Interfaces {
-    // `counts OP INTERFACE`.
-    OfCounts,
-    // `of-types OP INTERFACE`.
-    OfTypes,
-    // `places OP INTERFACE`.
-    OfPlaces,
-}
-
-// Among which accessors the one of a name is.
-#[derive(Clone, Copy)]
-enum Accessors {
-    // `counted OP ACCESSOR`.
-    Counted,
-    // `regions OP ACCESSOR`.
-    OfRegions,
-    // `free OP ACCESSOR`.
-    Free,
-}
-
-impl InterfaceCall {
-    fn of(command: &str) -> Option<Self> {
-        match command {
-            "resolve" => Some(InterfaceCall::Resolve),
-            "append" => Some(InterfaceCall::Append),
-            "counts" => Some(InterfaceCall::Verify(Interfaces::OfCounts)),
-            "of-types" => Some(InterfaceCall::Verify(Interfaces::OfTypes)),
-            "places" => Some(InterfaceCall::Verify(Interfaces::OfPlaces)),
-            "counted" => Some(InterfaceCall::Ask(Accessors::Counted)),
-            "regions" => Some(InterfaceCall::Ask(Accessors::OfRegions)),
-            "free" => Some(InterfaceCall::Ask(Accessors::Free)),
-            _ => None,
-        }
-    }
-}
-
-/// The calls of this crate, and those on nodes.
+/// The calls of this crate, and those on nodes: `counts OP INTERFACE`, `of-types OP INTERFACE` and `places OP
+/// INTERFACE` verify, `counted OP ACCESSOR`, `regions OP ACCESSOR` and `free OP ACCESSOR` ask, and `append OP OTHER`
+/// puts an operation into the body. `resolve M N LENGTH` asks for a range of places.
 struct InterfaceCalls;
 
 impl<D: ScriptSet> Layer<D> for InterfaceCalls {
     fn run(bench: &mut Bench<D>, line: Line<'_>) -> Result<(), Stop> {
-        match InterfaceCall::of(line.command) {
-            Some(InterfaceCall::Resolve) => resolve(bench, line),
-            Some(InterfaceCall::Append) => append(bench, line),
-            Some(InterfaceCall::Verify(interfaces)) => verify(bench, interfaces, line),
-            Some(InterfaceCall::Ask(accessors)) => ask(bench, accessors, line),
-            None => NodeCalls::run(bench, line),
+        match line.command {
+            "resolve" => resolve(bench, line),
+            "append" => append(bench, line),
+            "counts" | "of-types" | "places" => verify(bench, line),
+            "counted" | "regions" | "free" => ask(bench, line),
+            _ => NodeCalls::run(bench, line),
         }
     }
 }
@@ -91,51 +34,25 @@ fn name_in<'a>(line: Line<'a>) -> &'a str {
 }
 
 // Verifies an operation by an interface.
-fn verify<D: OpSet>(
-    bench: &mut Bench<D>,
-    interfaces: Interfaces,
-    line: Line<'_>,
-) -> Result<(), Stop> {
+fn verify<D: ScriptSet>(bench: &mut Bench<D>, line: Line<'_>) -> Result<(), Stop> {
     let op = bench.made.op(&bench.ctx, line.first)?;
     let (ctx, answer, op, name) = (&bench.ctx, &mut bench.answer, AnyOp { op }, name_in(line));
-    match interfaces {
-        Interfaces::OfCounts => verify_counts(ctx, answer, &op, CountRule::of(name)?),
-        Interfaces::OfTypes => verify_types(bench.alloc, ctx, answer, &op, TypeRule::of(name)?),
-        Interfaces::OfPlaces => verify_places(ctx, answer, &op, PlaceRule::of(name)?),
-    }
-    Ok(())
-}
-
-// Verifies an operation by an interface of numbers of results and operands, or of regions.
-fn verify_counts<D: OpSet>(ctx: &Context<D>, answer: &mut Answer, op: &AnyOp, rule: CountRule)
-    requires { IsLive ctx.now (AnyNode.Operation op.now.op) }
-{
-    match rule {
-        CountRule::Results(rule) => verify_results(ctx, answer, op, rule),
-        CountRule::Operands(rule) => verify_operands(ctx, answer, op, rule),
-        CountRule::Regions(rule) => verify_regions(ctx, answer, op, rule),
-        CountRule::Marks(rule) => verify_marks(ctx, answer, op, rule),
+    match line.command {
+        "counts" => verify_counts(ctx, answer, &op, name),
+        "of-types" => verify_types(bench.alloc, ctx, answer, &op, name),
+        _ => verify_places(ctx, answer, &op, name),
     }
 }
 
 // Asks an operation by an accessor.
-fn ask<D: OpSet>(bench: &mut Bench<D>, accessors: Accessors, line: Line<'_>) -> Result<(), Stop> {
+fn ask<D: ScriptSet>(bench: &mut Bench<D>, line: Line<'_>) -> Result<(), Stop> {
     let op = bench.made.op(&bench.ctx, line.first)?;
     let (ctx, made, answer) = (&bench.ctx, &bench.made, &mut bench.answer);
     let (op, name) = (AnyOp { op }, name_in(line));
-    match accessors {
-        Accessors::Counted => {
-            let accessor = CountedAccessor::of(name)?;
-            put_found(made, answer, find_counted(ctx, &op, accessor))
-        }
-        Accessors::OfRegions => {
-            let accessor = RegionAccessor::of(name)?;
-            put_found(made, answer, find_region(ctx, &op, accessor))
-        }
-        Accessors::Free => {
-            ask_freely(ctx, made, answer, &op, FreeAccessor::of(name)?);
-            Ok(())
-        }
+    match line.command {
+        "counted" => ask_counted(ctx, made, answer, &op, name),
+        "regions" => ask_regions(ctx, made, answer, &op, name),
+        _ => ask_freely(ctx, made, answer, &op, name),
     }
 }
 

@@ -2,9 +2,8 @@
 ghost use Rattle.plir_core.specs.ContextView.{IsLive};
 ghost use Rattle.plir_core.specs.declared.ptr.IRNode.{IRNode as AnyNode};
 
-use crate::iface::rules::{MarkRule, OperandRule, PlaceRule, RegionRule, ResultRule, TypeRule};
 use plir_core::Context;
-use plir_data::{FunctionTypeMark, IntegerType, Memory, OpSet, UnitType};
+use plir_data::{FunctionTypeMark, IntegerType, Memory, OpSet, UnitType, VerifyErr};
 use plir_iface::{
     AllOperandsImplsTy, AllOperandsOfType, AllResultsImplsTy, AllResultsOfType,
     AtLeastNOpdsInterface, AtLeastNResultsInterface, AtMostNOpdsInterface, AtMostNRegionsInterface,
@@ -16,8 +15,18 @@ use plir_iface::{
     ResultsMNOfType, SameOperandsAndResultType, SameOperandsType, SameResultsType,
     SingleBlockRegionInterface,
 };
-use plir_scripts::Answer;
+use plir_scripts::{Answer, Stop};
 use std::alloc::Global;
+use std::fmt::Display;
+
+// Writes `ok`, or the text of the refusal.
+fn put_verdict<E: Display + Drop>(answer: &mut Answer, verdict: Result<(), VerifyErr<E>>) {
+    match verdict {
+        Ok(()) => answer.put("ok"),
+        Err(VerifyErr::Refused { err, .. }) => answer.put_shown(&err),
+        Err(VerifyErr::Memory) => answer.note_lost(),
+    }
+}
 
 // Writes `ok` for an interface without a rule.
 fn put_free(answer: &mut Answer, verdict: Result<(), Memory>) {
@@ -27,102 +36,64 @@ fn put_free(answer: &mut Answer, verdict: Result<(), Memory>) {
     }
 }
 
-/// Interfaces of numbers of results.
-pub fn verify_results<
+/// Interfaces of numbers of results and operands, and of regions.
+pub fn verify_counts<
     D: OpSet,
     O: NResultsInterface<D, 2>
         + OneResultInterface<D>
         + AtMostNResultsInterface<D, 2>
         + OptionalResultInterface<D>
-        + AtLeastNResultsInterface<D, 2>,
->(ctx: &Context<D>, answer: &mut Answer, op: &O, rule: ResultRule)
-    requires { IsLive ctx.now (AnyNode.Operation (O.pointer op.now)) }
-{
-    match rule {
-        ResultRule::NResults => answer.put_verdict(NResultsInterface::<D, 2>::verify(op, ctx)),
-        ResultRule::OneResult => answer.put_verdict(OneResultInterface::<D>::verify(op, ctx)),
-        ResultRule::AtMostNResults => answer.put_verdict(AtMostNResultsInterface::<D, 2>::verify(
-            op, ctx,
-        )),
-        ResultRule::OptionalResult => answer.put_verdict(OptionalResultInterface::<D>::verify(
-            op, ctx,
-        )),
-        ResultRule::AtLeastNResults => answer.put_verdict(AtLeastNResultsInterface::<D, 2>::verify(
-            op, ctx,
-        )),
-    }
-}
-
-/// Interfaces of numbers of operands.
-pub fn verify_operands<
-    D: OpSet,
-    O: NOpdsInterface<D, 2>
+        + AtLeastNResultsInterface<D, 2>
+        + NOpdsInterface<D, 2>
         + OneOpdInterface<D>
         + AtMostNOpdsInterface<D, 2>
         + OptionalOpdInterface<D>
-        + AtLeastNOpdsInterface<D, 2>,
->(ctx: &Context<D>, answer: &mut Answer, op: &O, rule: OperandRule)
-    requires { IsLive ctx.now (AnyNode.Operation (O.pointer op.now)) }
-{
-    match rule {
-        OperandRule::NOpds => answer.put_verdict(NOpdsInterface::<D, 2>::verify(op, ctx)),
-        OperandRule::OneOpd => answer.put_verdict(OneOpdInterface::<D>::verify(op, ctx)),
-        OperandRule::AtMostNOpds => answer.put_verdict(AtMostNOpdsInterface::<D, 2>::verify(
-            op, ctx,
-        )),
-        OperandRule::OptionalOpd => answer.put_verdict(OptionalOpdInterface::<D>::verify(op, ctx)),
-        OperandRule::AtLeastNOpds => answer.put_verdict(AtLeastNOpdsInterface::<D, 2>::verify(
-            op, ctx,
-        )),
-    }
-}
-
-/// Interfaces of regions.
-pub fn verify_regions<
-    D: OpSet,
-    O: NRegionsInterface<D, 2>
+        + AtLeastNOpdsInterface<D, 2>
+        + NRegionsInterface<D, 2>
         + OneRegionInterface<D>
-        + AtMostNRegionsInterface<D, 1>
-        + SingleBlockRegionInterface<D>,
->(ctx: &Context<D>, answer: &mut Answer, op: &O, rule: RegionRule)
-    requires { IsLive ctx.now (AnyNode.Operation (O.pointer op.now)) }
-{
-    match rule {
-        RegionRule::NRegions => answer.put_verdict(NRegionsInterface::<D, 2>::verify(op, ctx)),
-        RegionRule::OneRegion => answer.put_verdict(OneRegionInterface::<D>::verify(op, ctx)),
-        RegionRule::AtMostNRegions => answer.put_verdict(AtMostNRegionsInterface::<D, 1>::verify(
-            op, ctx,
-        )),
-        RegionRule::SingleBlockRegion => answer.put_verdict(SingleBlockRegionInterface::<D>::verify(
-            op, ctx,
-        )),
-    }
-}
-
-/// Interfaces without a rule.
-pub fn verify_marks<
-    D: OpSet,
-    O: AtMostOneRegionInterface<D>
+        + AtMostOneRegionInterface<D>
         + RegionKindInterface<D>
         + IsTerminatorInterface<D>
         + NoTerminatorInterface<D>
         + IsolatedFromAboveInterface<D>,
->(ctx: &Context<D>, answer: &mut Answer, op: &O, rule: MarkRule)
+>(ctx: &Context<D>, answer: &mut Answer, op: &O, name: &str) -> Result<(), Stop>
     requires { IsLive ctx.now (AnyNode.Operation (O.pointer op.now)) }
 {
-    match rule {
-        MarkRule::AtMostOneRegion => put_free(
+    match name {
+        "NResults<2>" => put_verdict(answer, NResultsInterface::<D, 2>::verify(op, ctx)),
+        "OneResult" => put_verdict(answer, OneResultInterface::<D>::verify(op, ctx)),
+        "AtMostNResults<2>" => put_verdict(
             answer,
-            AtMostOneRegionInterface::<D>::verify(op, ctx),
+            AtMostNResultsInterface::<D, 2>::verify(op, ctx),
         ),
-        MarkRule::RegionKind => put_free(answer, RegionKindInterface::<D>::verify(op, ctx)),
-        MarkRule::IsTerminator => put_free(answer, IsTerminatorInterface::<D>::verify(op, ctx)),
-        MarkRule::NoTerminator => put_free(answer, NoTerminatorInterface::<D>::verify(op, ctx)),
-        MarkRule::IsolatedFromAbove => put_free(
+        "OptionalResult" => put_verdict(answer, OptionalResultInterface::<D>::verify(op, ctx)),
+        "AtLeastNResults<2>" => put_verdict(
             answer,
-            IsolatedFromAboveInterface::<D>::verify(op, ctx),
+            AtLeastNResultsInterface::<D, 2>::verify(op, ctx),
         ),
+        "NOpds<2>" => put_verdict(answer, NOpdsInterface::<D, 2>::verify(op, ctx)),
+        "OneOpd" => put_verdict(answer, OneOpdInterface::<D>::verify(op, ctx)),
+        "AtMostNOpds<2>" => put_verdict(answer, AtMostNOpdsInterface::<D, 2>::verify(op, ctx)),
+        "OptionalOpd" => put_verdict(answer, OptionalOpdInterface::<D>::verify(op, ctx)),
+        "AtLeastNOpds<2>" => put_verdict(answer, AtLeastNOpdsInterface::<D, 2>::verify(op, ctx)),
+        "NRegions<2>" => put_verdict(answer, NRegionsInterface::<D, 2>::verify(op, ctx)),
+        "OneRegion" => put_verdict(answer, OneRegionInterface::<D>::verify(op, ctx)),
+        "AtMostNRegions<1>" => put_verdict(
+            answer,
+            AtMostNRegionsInterface::<D, 1>::verify(op, ctx),
+        ),
+        "SingleBlockRegion" => put_verdict(
+            answer,
+            SingleBlockRegionInterface::<D>::verify(op, ctx),
+        ),
+        "AtMostOneRegion" => put_free(answer, AtMostOneRegionInterface::<D>::verify(op, ctx)),
+        "RegionKind" => put_free(answer, RegionKindInterface::<D>::verify(op, ctx)),
+        "IsTerminator" => put_free(answer, IsTerminatorInterface::<D>::verify(op, ctx)),
+        "NoTerminator" => put_free(answer, NoTerminatorInterface::<D>::verify(op, ctx)),
+        "IsolatedFromAbove" => put_free(answer, IsolatedFromAboveInterface::<D>::verify(op, ctx)),
+        _ => return Err(Stop::Refused),
     }
+    Ok(())
 }
 
 /// Interfaces of types of all operands and results.
@@ -133,30 +104,35 @@ pub fn verify_types<
         + AllResultsOfType<D, UnitType>
         + AllOperandsImplsTy<D, FunctionTypeMark>
         + AllResultsImplsTy<D, FunctionTypeMark>,
->(alloc: Global, ctx: &Context<D>, answer: &mut Answer, op: &O, rule: TypeRule)
+>(alloc: Global, ctx: &Context<D>, answer: &mut Answer, op: &O, name: &str) -> Result<(), Stop>
     requires { IsLive ctx.now (AnyNode.Operation (O.pointer op.now)) }
 {
-    match rule {
-        TypeRule::SameOperandsType => answer.put_verdict(SameOperandsType::<D>::verify(op, ctx)),
-        TypeRule::SameResultsType => answer.put_verdict(SameResultsType::<D>::verify(op, ctx)),
-        TypeRule::SameOperandsAndResultType => answer.put_verdict(SameOperandsAndResultType::<
-            D,
-        >::verify(op, ctx)),
-        TypeRule::AllOperandsOfType => answer.put_verdict(AllOperandsOfType::<D, UnitType>::verify(
-            op, alloc, ctx,
-        )),
-        TypeRule::AllResultsOfType => answer.put_verdict(AllResultsOfType::<D, UnitType>::verify(
-            op, alloc, ctx,
-        )),
-        TypeRule::AllOperandsImplsTy => answer.put_verdict(AllOperandsImplsTy::<
-            D,
-            FunctionTypeMark,
-        >::verify(op, ctx)),
-        TypeRule::AllResultsImplsTy => answer.put_verdict(AllResultsImplsTy::<
-            D,
-            FunctionTypeMark,
-        >::verify(op, ctx)),
+    match name {
+        "SameOperandsType" => put_verdict(answer, SameOperandsType::<D>::verify(op, ctx)),
+        "SameResultsType" => put_verdict(answer, SameResultsType::<D>::verify(op, ctx)),
+        "SameOperandsAndResultType" => put_verdict(
+            answer,
+            SameOperandsAndResultType::<D>::verify(op, ctx),
+        ),
+        "AllOperandsOfType<Unit>" => put_verdict(
+            answer,
+            AllOperandsOfType::<D, UnitType>::verify(op, alloc, ctx),
+        ),
+        "AllResultsOfType<Unit>" => put_verdict(
+            answer,
+            AllResultsOfType::<D, UnitType>::verify(op, alloc, ctx),
+        ),
+        "AllOperandsImplsTy<Function>" => put_verdict(
+            answer,
+            AllOperandsImplsTy::<D, FunctionTypeMark>::verify(op, ctx),
+        ),
+        "AllResultsImplsTy<Function>" => put_verdict(
+            answer,
+            AllResultsImplsTy::<D, FunctionTypeMark>::verify(op, ctx),
+        ),
+        _ => return Err(Stop::Refused),
     }
+    Ok(())
 }
 
 /// Interfaces of types at places.
@@ -171,57 +147,47 @@ pub fn verify_places<
         + ResultsMNOfType<D, 0, 2, IntegerType>
         + OperandsMNImplsTy<D, 0, 1, FunctionTypeMark>
         + ResultsMNImplsTy<D, 0, 4294967295, FunctionTypeMark>,
->(ctx: &Context<D>, answer: &mut Answer, op: &O, rule: PlaceRule)
+>(ctx: &Context<D>, answer: &mut Answer, op: &O, name: &str) -> Result<(), Stop>
     requires { IsLive ctx.now (AnyNode.Operation (O.pointer op.now)) }
 {
-    match rule {
-        PlaceRule::FirstOperandOfType => answer.put_verdict(OperandNOfType::<
-            D,
-            0,
-            UnitType,
-        >::verify(op, ctx)),
-        PlaceRule::FirstResultOfType => answer.put_verdict(ResultNOfType::<D, 0, UnitType>::verify(
-            op, ctx,
-        )),
-        PlaceRule::SecondOperandImplsTy => answer.put_verdict(OperandNImplsTy::<
-            D,
-            1,
-            FunctionTypeMark,
-        >::verify(op, ctx)),
-        PlaceRule::SecondResultImplsTy => answer.put_verdict(ResultNImplsTy::<
-            D,
-            1,
-            FunctionTypeMark,
-        >::verify(op, ctx)),
-        PlaceRule::LaterOperandsOfType => answer.put_verdict(OperandsMNOfType::<
-            D,
-            1,
-            4294967295,
-            IntegerType,
-        >::verify(op, ctx)),
-        PlaceRule::FrontOperandsOfType => answer.put_verdict(OperandsMNOfType::<
-            D,
-            0,
-            2,
-            IntegerType,
-        >::verify(op, ctx)),
-        PlaceRule::FrontResultsOfType => answer.put_verdict(ResultsMNOfType::<
-            D,
-            0,
-            2,
-            IntegerType,
-        >::verify(op, ctx)),
-        PlaceRule::FrontOperandsImplTy => answer.put_verdict(OperandsMNImplsTy::<
-            D,
-            0,
-            1,
-            FunctionTypeMark,
-        >::verify(op, ctx)),
-        PlaceRule::AllResultsImplTy => answer.put_verdict(ResultsMNImplsTy::<
-            D,
-            0,
-            4294967295,
-            FunctionTypeMark,
-        >::verify(op, ctx)),
+    match name {
+        "OperandNOfType<0, Unit>" => put_verdict(
+            answer,
+            OperandNOfType::<D, 0, UnitType>::verify(op, ctx),
+        ),
+        "ResultNOfType<0, Unit>" => put_verdict(
+            answer,
+            ResultNOfType::<D, 0, UnitType>::verify(op, ctx),
+        ),
+        "OperandNImplsTy<1, Function>" => put_verdict(
+            answer,
+            OperandNImplsTy::<D, 1, FunctionTypeMark>::verify(op, ctx),
+        ),
+        "ResultNImplsTy<1, Function>" => put_verdict(
+            answer,
+            ResultNImplsTy::<D, 1, FunctionTypeMark>::verify(op, ctx),
+        ),
+        "OperandsMNOfType<1, -1, Integer>" => put_verdict(
+            answer,
+            OperandsMNOfType::<D, 1, 4294967295, IntegerType>::verify(op, ctx),
+        ),
+        "OperandsMNOfType<0, 2, Integer>" => put_verdict(
+            answer,
+            OperandsMNOfType::<D, 0, 2, IntegerType>::verify(op, ctx),
+        ),
+        "ResultsMNOfType<0, 2, Integer>" => put_verdict(
+            answer,
+            ResultsMNOfType::<D, 0, 2, IntegerType>::verify(op, ctx),
+        ),
+        "OperandsMNImplsTy<0, 1, Function>" => put_verdict(
+            answer,
+            OperandsMNImplsTy::<D, 0, 1, FunctionTypeMark>::verify(op, ctx),
+        ),
+        "ResultsMNImplsTy<0, -1, Function>" => put_verdict(
+            answer,
+            ResultsMNImplsTy::<D, 0, 4294967295, FunctionTypeMark>::verify(op, ctx),
+        ),
+        _ => return Err(Stop::Refused),
     }
+    Ok(())
 }
