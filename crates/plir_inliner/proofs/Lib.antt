@@ -13,4 +13,3 @@ mod Remembered
 mod Went
 mod Going
 mod Told
-mod Refusing

@@ -10,7 +10,7 @@ use Rattle.plir_flow.specs.Branches.{Range as Places}
 use Rattle.plir_flow_sets.specs.Calls.{CallView}
 use Rattle.plir_inliner.specs.declared.bodies.Bodies.{Bodies}
 use Rattle.plir_inliner.specs.Known.{AreRight, IsTold, ptr_eq}
-use Rattle.plir_inliner.proofs.Stepping.{same-ptr}
+use Rattle.plir_copies.specs.Telling.{same_ptr_told}
 
 module _ {K A T : Type 0} (own : K → Bool) (calls : OpView K A → Option CallView)
     (returned : OpView K A → Option Places) (s : ContextView K A T) where
@@ -23,7 +23,7 @@ module _ {K A T : Type 0} (own : K → Bool) (calls : OpView K A → Option Call
     where
       by : (z : Bool) → ptr_eq block b ≡ z → IsTold own calls returned s b other
       by true t =
-          (let same : block ≡ b = (same-ptr block b (ptr_eq block b) refl).0 t in
+          (let same : block ≡ b = (same_ptr_told block b (ptr_eq block b) refl).0 t in
           let value : told ≡ other = same_Some told other
           (sym (updates b ∙ ap (λ y. cond y (Some told) (get ptr_eq old.told b)) t) ∙ e) in
           subst (λ y. IsTold own calls returned s y other) same (subst (IsTold own calls returned s block) value is))

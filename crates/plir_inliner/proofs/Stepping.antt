@@ -1,9 +1,8 @@
 -- Calls that can be inlined, and steps.
-use Rattle.std.proofs.Common.{◌≡◌, ℕ, ◌+◌, ◌<◌, Bool, true, true≢false, List, [], ◌∷◌, ◌++◌, get_or, length}
-use Rattle.std.proofs.Common.{arith, ◌&&◌, eqb, Option, Some, take, inl, inr, refl, sym, ap, subst, ◌∙◌}
-use Rattle.std.specs.Prelude.{◌↔◌, IsTrue, slice_get}
-use Rattle.std.proofs.lemmas.List.{take_more}
-use Rattle.std.proofs.lemmas.Option.{get_or_from_slice_get, slice_get-get_or, slice_get_within}
+use Rattle.std.proofs.Common.{◌≡◌, ℕ, ◌+◌, ◌<◌, Bool, true, true≢false, List, [], ◌∷◌, get_or, length}
+use Rattle.std.proofs.Common.{Option, Some, take, inl, inr, refl, sym, ap, subst, ◌∙◌}
+use Rattle.std.specs.Prelude.{slice_get}
+use Rattle.std.proofs.lemmas.Option.{slice_get-get_or}
 use Rattle.plir_store.specs.Members.{Has}
 use Rattle.plir_store.specs.MemberLaws.{Has-append_cases, Has-at}
 use Rattle.plir_core.specs.declared.arena.making.NodeErr.{NodeErr}
@@ -32,39 +31,19 @@ use Rattle.plir_inliner.specs.Meaning.{IsAnyRefusal, IsBodyMeant, IsCalleeRefusa
 use Rattle.plir_inliner.specs.Meaning.{calls_by_name, is_by_name}
 use Rattle.plir_inliner.specs.Plain.{IsPlain}
 use Rattle.plir_inliner.specs.Steps.{CanStep, IsBelow, IsReady, IsStepRefusal, NoneLeft, of_nodes, of_table}
+use Rattle.plir_copies.specs.ListLaws.{take_next}
 use Rattle.plir_inliner.proofs.Meant.{one-body}
 
 -- what stands for an element behind the end of a list
 abbrev pub no-op : Ptr OperationKind
 no-op = record { slot = 0; version = 0; kind = record {} }
 
--- what the derived test of two pointers says
-pub same-ptr : {X : Type 0} (p q : Ptr X) (b : Bool) → b ≡ (eqb p.slot q.slot && (eqb p.version q.version && true))
-    → IsTrue b ↔ (p ≡ q)
-same-ptr {X} p q b e = (
-  λ h.
-      let slots : p.slot ≡ q.slot = grind arith in
-      let versions : p.version ≡ q.version = grind arith in
-      ap (λ (n : ℕ). let r : Ptr X = record { slot = n; version = p.version; kind = record {} } in r) slots
-      ∙ ap (λ (n : ℕ). let r : Ptr X = record { slot = q.slot; version = n; kind = record {} } in r) versions,
-  λ h.
-      let slots : p.slot ≡ q.slot = ap (λ z. z.slot) h in
-      let versions : p.version ≡ q.version = ap (λ z. z.version) h in
-      grind arith,
-)
-
 module _ {X : Type 0} where
-  -- one more of the first elements
-  pub take-next : (xs : List X) (i : ℕ) (x : X) → slice_get xs i ≡ Some x → take (i + 1) xs ≡ take i xs ++ x ∷ []
-  take-next xs i x e =
-      take_more xs i x (slice_get_within xs i x e)
-      ∙ ap (λ z. take i xs ++ z ∷ []) (get_or_from_slice_get xs i x x e)
-
   -- what is said of the first elements, and of the next one
   pub each-next : (P : X → Type 0) (xs : List X) (i : ℕ) (x : X) → slice_get xs i ≡ Some x →
       ((p : X) → Has (take i xs) p → P p) → P x → (p : X) → Has (take (i + 1) xs) p → P p
   each-next P xs i x at each here p has =
-      elim (Has-append_cases (take i xs) (x ∷ []) p (subst (λ zs. Has zs p) (take-next xs i x at) has)) [
+      elim (Has-append_cases (take i xs) (x ∷ []) p (subst (λ zs. Has zs p) (take_next xs i x at) has)) [
         | inl h ↦ each p h
         | inr h ↦ elim h [ inl is ↦ subst P is here | inr z ↦ absurd z ]
       ]

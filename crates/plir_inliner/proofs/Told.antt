@@ -1,7 +1,7 @@
 -- What is told of an operation, and of a body, as it is read.
-use Rattle.std.proofs.Common.{◌≡◌, ℕ, Option, Some, None, sym, ap, ◌∙◌}
-use Rattle.std.specs.Prelude.{◌↔◌, IfSome, option_map}
-use Rattle.std.proofs.lemmas.Option.{none-some, same_Some}
+use Rattle.std.proofs.Common.{◌≡◌, Option, Some, None, sym, ap, ◌∙◌}
+use Rattle.std.specs.Prelude.{IfSome, option_map}
+use Rattle.std.proofs.lemmas.Option.{none-some}
 use Rattle.plir_data.specs.declared.op_set.OpKind.TheVariants.{Func}
 use Rattle.plir_core.specs.declared.ptr.Ptr.{Ptr}
 use Rattle.plir_core.specs.declared.ptr.Operation.{Operation as OperationKind}
@@ -9,16 +9,7 @@ use Rattle.plir_core.specs.declared.ptr.BasicBlock.{BasicBlock as BlockKind}
 use Rattle.plir_core.specs.declared.ptr.IRNode.TheVariants.{BasicBlock}
 use Rattle.plir_core.specs.ContextView.{ContextView, kind_of}
 use Rattle.plir_builtin.specs.Symbols.{body}
-use Rattle.plir_flow.specs.Branches.{Range as Places}
 use Rattle.plir_inliner.specs.Meaning.{IsBodyOf}
-
--- places that are told are from 0 on up to n exactly where their ends are so
-pub places-are : (a e n : ℕ) (told : Option Places) → Some (a, e) ≡ told →
-    (told ≡ Some (0, n)) ↔ ((a ≡ 0) × (e ≡ n))
-places-are a e n told t = (
-  λ h. (let same = same_Some _ _ (t ∙ h) in (ap (λ z. z.0) same, ap (λ z. z.1) same)),
-  λ h. sym t ∙ ap (λ k. Some (k, e)) h.0 ∙ ap (λ k. Some (0, k)) h.1,
-)
 
 module _ {K A T : Type 0} (s : ContextView K A T) (f : Ptr OperationKind) (o : Option (Ptr BlockKind))
     (found : option_map BasicBlock o ≡ body s f) where

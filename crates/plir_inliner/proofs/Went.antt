@@ -27,20 +27,6 @@ length-append : (xs ys : List Step) → length (xs ++ ys) ≡ length xs + length
 length-append [] ys = omega arith
 length-append (x ∷ xs) ys = let i = length-append xs ys in omega (arith, i)
 
--- nothing has changed
-pub same-live : {K A T : Type 0} (s : ContextView K A T) → SameLive s s
-same-live s = record {
-  nodes = record {
-    live = λ n. refl;
-    children = λ n. refl;
-    parents = λ n. refl;
-    ops = λ p l. refl;
-    blocks = λ p l. refl;
-    limit = refl;
-  };
-  types = refl;
-}
-
 -- tables that were sure before a step that went well are so behind it
 pub sure-after : {K A T E : Type 0} {X : Type 0} (own own_table : K → Bool) (s t : ContextView K A T) (c : Tables)
     (r : Result X E) → OnOk r (SureStill own own_table s t) → AreSure own own_table s c →
@@ -54,63 +40,6 @@ module _ {K A T : Type 0} (own own_table : K → Bool) (calls : OpView K A → O
       AreSteps own own_table calls returned root t ys u → AreSteps own own_table calls returned root s (xs ++ ys) u
   steps-on s t u [] ys e h = subst (λ z. AreSteps own own_table calls returned root z ys u) e h
   steps-on s t u (x ∷ xs) ys h k = (h.0, h.1, h.2, steps-on h.0 t u xs ys h.3 k)
-
-  pub part-none : (s : ContextView K A T) (m : Tally) → IsPart own own_table calls returned root s s m m
-  part-none s m = record {
-    steps = [];
-    went = refl;
-    calls = omega arith;
-    left = omega arith;
-  }
-
-  pub part-one : (s t : ContextView K A T) (m m' : Tally) (x : Step) →
-      IsReady own own_table calls returned root s x → IsInlined s t x.call x.block → m'.calls ≡ m.calls + 1 →
-      m'.left ≡ m.left - x.cost → x.cost ≤ m.left → IsPart own own_table calls returned root s t m m'
-  part-one s t m m' x ready inlined more less fits = record {
-    steps = x ∷ [];
-    went = (t, ready, inlined, refl);
-    calls = omega arith;
-    left = omega arith;
-  }
-
-  pub part-on : (s t u : ContextView K A T) (m n o : Tally) → IsPart own own_table calls returned root s t m n →
-      IsPart own own_table calls returned root t u n o → IsPart own own_table calls returned root s u m o
-  part-on s t u m n o f g =
-      let sums = sum-append f.steps g.steps in
-      let lengths = length-append f.steps g.steps in
-      record {
-        steps = f.steps ++ g.steps;
-        went = steps-on s t u f.steps g.steps f.went g.went;
-        calls = omega (arith, lengths, f.calls, g.calls);
-        left = omega (arith, sums, f.left, g.left);
-      }
-
-  -- a step that was refused at once
-  pub cut-here : (s t : ContextView K A T) (left : ℕ) (e : InlineErr) →
-      IsStepRefusal own own_table calls returned root s e → SameLive s t →
-      IsCutShort own own_table calls returned root s t left e
-  cut-here s t left e refused same = record {
-    before = s;
-    steps = [];
-    went = refl;
-    within = omega arith;
-    refused = refused;
-    same = same;
-  }
-
-  pub cut-on : (s t u : ContextView K A T) (m n : Tally) (e : InlineErr) →
-      IsPart own own_table calls returned root s t m n → IsCutShort own own_table calls returned root t u n.left e →
-      IsCutShort own own_table calls returned root s u m.left e
-  cut-on s t u m n e f g =
-      let sums = sum-append f.steps g.steps in
-      record {
-        before = g.before;
-        steps = f.steps ++ g.steps;
-        went = steps-on s t g.before f.steps g.steps f.went g.went;
-        within = omega (arith, sums, f.left, g.within);
-        refused = g.refused;
-        same = g.same;
-      }
 
   -- what all parts come to
   pub whole-part : (s t : ContextView K A T) (budget : ℕ) (m n : Tally) (done : Inlining) → m.calls ≡ 0 →
@@ -129,4 +58,63 @@ module _ {K A T : Type 0} (own own_table : K → Bool) (calls : OpView K A → O
         within = omega (arith, f.left);
         whole = none;
         stopped = λ e. subst (IsOverBudget own own_table calls returned root t) left (over e);
+      }
+
+module _ {K A T : Type 0} {own own_table : K → Bool} {calls : OpView K A → Option CallView}
+    {returned : OpView K A → Option Places} {root : Ptr OperationKind} where
+  pub part-none : {s : ContextView K A T} {m : Tally} → IsPart own own_table calls returned root s s m m
+  part-none = record {
+    steps = [];
+    went = refl;
+    calls = omega arith;
+    left = omega arith;
+  }
+
+  pub part-one : {s t : ContextView K A T} {m m' : Tally} (x : Step) →
+      IsReady own own_table calls returned root s x → IsInlined s t x.call x.block → m'.calls ≡ m.calls + 1 →
+      m'.left ≡ m.left - x.cost → x.cost ≤ m.left → IsPart own own_table calls returned root s t m m'
+  part-one {s} {t} {m} {m'} x ready inlined more less fits = record {
+    steps = x ∷ [];
+    went = (t, ready, inlined, refl);
+    calls = omega arith;
+    left = omega arith;
+  }
+
+  pub part-on : {s t u : ContextView K A T} {m n o : Tally} → IsPart own own_table calls returned root s t m n →
+      IsPart own own_table calls returned root t u n o → IsPart own own_table calls returned root s u m o
+  part-on {s} {t} {u} {m} {n} {o} f g =
+      let sums = sum-append f.steps g.steps in
+      let lengths = length-append f.steps g.steps in
+      record {
+        steps = f.steps ++ g.steps;
+        went = steps-on own own_table calls returned root s t u f.steps g.steps f.went g.went;
+        calls = omega (arith, lengths, f.calls, g.calls);
+        left = omega (arith, sums, f.left, g.left);
+      }
+
+  -- a step that was refused at once
+  pub cut-here : {s t : ContextView K A T} {left : ℕ} (e : InlineErr) →
+      IsStepRefusal own own_table calls returned root s e → SameLive s t →
+      IsCutShort own own_table calls returned root s t left e
+  cut-here {s} e refused same = record {
+    before = s;
+    steps = [];
+    went = refl;
+    within = omega arith;
+    refused = refused;
+    same = same;
+  }
+
+  pub cut-on : {s t u : ContextView K A T} {m n : Tally} {e : InlineErr} →
+      IsPart own own_table calls returned root s t m n → IsCutShort own own_table calls returned root t u n.left e →
+      IsCutShort own own_table calls returned root s u m.left e
+  cut-on {s} {t} {u} {m} {n} f g =
+      let sums = sum-append f.steps g.steps in
+      record {
+        before = g.before;
+        steps = f.steps ++ g.steps;
+        went = steps-on own own_table calls returned root s t g.before f.steps g.steps f.went g.went;
+        within = omega (arith, sums, f.left, g.within);
+        refused = g.refused;
+        same = g.same;
       }

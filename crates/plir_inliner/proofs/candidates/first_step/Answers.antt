@@ -7,8 +7,9 @@ use Rattle.plir_core.specs.declared.ptr.BasicBlock.{BasicBlock as BlockKind}
 use Rattle.plir_core.specs.declared.ptr.Ptr.{Ptr}
 use Rattle.plir_inliner.specs.Calls.{CanInlineCall}
 use Rattle.plir_inliner.specs.Meaning.{IsAnyRefusal}
-use Rattle.plir_inliner.proofs.Refusing.{if-err}
-use Rattle.plir_inliner.proofs.Stepping.{each-at, has-at, no-op, one-refusal, same-ptr}
+use Rattle.plir_copies.specs.Telling.{same_ptr_told}
+use Rattle.plir_copies.specs.RefusalLaws.{passed_on}
+use Rattle.plir_inliner.proofs.Stepping.{each-at, has-at, no-op, one-refusal}
 use Rattle.plir_inliner.proofs.candidates.first_step.Goals as goal
 
 pub loop-call-preserved-then-eq : goal.loop-call-preserved-then-eq
@@ -18,7 +19,7 @@ loop-call-preserved-then-eq g c = record {
   none = each-at (λ p. (p ≡ c.args.root → ⊥) → (b : Ptr BlockKind) →
       CanInlineCall g.D.OpSet.is_symbol g.D.OpSet.is_symbol_table g.D.CallSet.call g.D.CallSet.returned c.args.ctx.now
       p b → ⊥) c.args.calls.now c.loop-call.call-index no-op c.loop-call-test.true c.loop-call.invariant.none
-      (λ other b h. other ((same-ptr _ c.args.root c.eq.result c.eq.ensures).0 c.if-eq.true));
+      (λ other b h. other ((same_ptr_told _ c.args.root c.eq.result c.eq.ensures).0 c.if-eq.true));
 }
 
 pub step_at-requires-clause-live : goal.step_at-requires-clause-live
@@ -27,15 +28,13 @@ step_at-requires-clause-live g c =
 
 pub returns-in_err-step-clause-refused : goal.returns-in_err-step-clause-refused
 returns-in_err-step-clause-refused g c =
-    if-err (IsAnyRefusal g.D.OpSet.is_symbol g.D.OpSet.is_symbol_table g.D.CallSet.call c.args.ctx.now c.args.root
-    c.args.calls.now) c.from_residual.result c.from_residual.ensures.1 (λ y q.
-    subst (IsAnyRefusal g.D.OpSet.is_symbol g.D.OpSet.is_symbol_table g.D.CallSet.call c.args.ctx.now c.args.root
-    c.args.calls.now) (sym q)
+    passed_on (IsAnyRefusal g.D.OpSet.is_symbol g.D.OpSet.is_symbol_table g.D.CallSet.call c.args.ctx.now c.args.root
+    c.args.calls.now) c.from_residual.result c.from_residual.ensures.1
     (one-refusal g.D.OpSet.is_symbol g.D.OpSet.is_symbol_table g.D.CallSet.call g.D.CallSet.returned c.args.ctx.now
     c.args.root c.args.calls.now _
     (has-at c.args.calls.now c.loop-call.call-index no-op c.loop-call-test.true)
-    (λ is. false≢true (sym c.if-eq.false ∙ (same-ptr _ c.args.root c.eq.result c.eq.ensures).1 is))
-    c.in_err-step.field-0.0 c.in_err-step.ensures.refused))
+    (λ is. false≢true (sym c.if-eq.false ∙ (same_ptr_told _ c.args.root c.eq.result c.eq.ensures).1 is))
+    c.in_err-step.field-0.0 c.in_err-step.ensures.refused)
 
 pub returns-in-Some-clause-among : goal.returns-in-Some-clause-among
 returns-in-Some-clause-among g c =

@@ -7,9 +7,10 @@ use Rattle.plir_walk.specs.TreeLaws.{under-live}
 use Rattle.plir_inliner.specs.declared.errors.InlineErr.TheVariants.{Memory}
 use Rattle.plir_inliner.specs.Meaning.{IsAnyRefusal}
 use Rattle.plir_inliner.specs.Steps.{CanStep, IsCutShort}
-use Rattle.plir_inliner.proofs.Refusing.{if-err, on-err}
+use Rattle.plir_copies.specs.Staying.{same_live}
+use Rattle.plir_copies.specs.RefusalLaws.{passed_on, on_err}
 use Rattle.plir_inliner.proofs.Stepping.{any-refusal, none-left, ready}
-use Rattle.plir_inliner.proofs.Went.{cut-here, cut-on, part-none, part-on, same-live}
+use Rattle.plir_inliner.proofs.Went.{cut-here, cut-on, part-none, part-on}
 use Rattle.plir_inliner.proofs.rounds.inline_round.Goals as goal
 
 pub first_step-requires-clause-live : goal.first_step-requires-clause-live
@@ -24,47 +25,36 @@ in_turn-requires-clause-live g c = λ p h.
 
 pub returns-in_err-calls-clause-err : goal.returns-in_err-calls-clause-err
 returns-in_err-calls-clause-err g c =
-    if-err (IsCutShort g.D.OpSet.is_symbol g.D.OpSet.is_symbol_table g.D.CallSet.call g.D.CallSet.returned c.args.root
-    c.args.ctx.now c.args.ctx.now c.args.tally.now.left) c.from_residual.result c.from_residual.ensures.1 (λ y q.
-    subst (IsCutShort g.D.OpSet.is_symbol g.D.OpSet.is_symbol_table g.D.CallSet.call g.D.CallSet.returned c.args.root
-    c.args.ctx.now c.args.ctx.now c.args.tally.now.left) (sym q)
-    (cut-here g.D.OpSet.is_symbol g.D.OpSet.is_symbol_table g.D.CallSet.call g.D.CallSet.returned c.args.root
-    c.args.ctx.now c.args.ctx.now c.args.tally.now.left Memory tt (same-live c.args.ctx.now)))
+    passed_on (IsCutShort g.D.OpSet.is_symbol g.D.OpSet.is_symbol_table g.D.CallSet.call g.D.CallSet.returned
+    c.args.root c.args.ctx.now c.args.ctx.now c.args.tally.now.left) c.from_residual.result c.from_residual.ensures.1
+    (cut-here Memory tt (same_live c.args.ctx.now))
 
 pub returns-in_err-first-clause-err : goal.returns-in_err-first-clause-err
 returns-in_err-first-clause-err g c =
-    if-err (IsCutShort g.D.OpSet.is_symbol g.D.OpSet.is_symbol_table g.D.CallSet.call g.D.CallSet.returned c.args.root
-    c.args.ctx.now c.args.ctx.now c.args.tally.now.left) c.from_residual-in_err-first.result
-    c.from_residual-in_err-first.ensures.1 (λ y q.
-    subst (IsCutShort g.D.OpSet.is_symbol g.D.OpSet.is_symbol_table g.D.CallSet.call g.D.CallSet.returned c.args.root
-    c.args.ctx.now c.args.ctx.now c.args.tally.now.left) (sym q)
-    (cut-here g.D.OpSet.is_symbol g.D.OpSet.is_symbol_table g.D.CallSet.call g.D.CallSet.returned c.args.root
-    c.args.ctx.now c.args.ctx.now c.args.tally.now.left c.in_err-first.field-0.0
+    passed_on (IsCutShort g.D.OpSet.is_symbol g.D.OpSet.is_symbol_table g.D.CallSet.call g.D.CallSet.returned
+    c.args.root c.args.ctx.now c.args.ctx.now c.args.tally.now.left) c.from_residual-in_err-first.result
+    c.from_residual-in_err-first.ensures.1
+    (cut-here c.in_err-first.field-0.0
     (any-refusal g.D.OpSet.is_symbol g.D.OpSet.is_symbol_table g.D.CallSet.call g.D.CallSet.returned c.args.ctx.now
     c.args.root c.in_ok-calls.calls.items c.in_ok-calls.ensures c.in_err-first.field-0.0
     (subst (λ xs. IsAnyRefusal g.D.OpSet.is_symbol g.D.OpSet.is_symbol_table g.D.CallSet.call c.args.ctx.now
     c.args.root xs c.in_err-first.field-0.0) c.deref.ensures.value c.in_err-first.ensures.refused))
-    (same-live c.args.ctx.now)))
+    (same_live c.args.ctx.now))
 
 pub returns-in_err-turns-clause-err : goal.returns-in_err-turns-clause-err
 returns-in_err-turns-clause-err g c =
-    if-err (IsCutShort g.D.OpSet.is_symbol g.D.OpSet.is_symbol_table g.D.CallSet.call g.D.CallSet.returned c.args.root
-    c.args.ctx.now c.args.ctx.now c.args.tally.now.left) c.from_residual-in_err-turns.result
-    c.from_residual-in_err-turns.ensures.1 (λ y q.
-    subst (IsCutShort g.D.OpSet.is_symbol g.D.OpSet.is_symbol_table g.D.CallSet.call g.D.CallSet.returned c.args.root
-    c.args.ctx.now c.args.ctx.now c.args.tally.now.left) (sym q)
-    (cut-here g.D.OpSet.is_symbol g.D.OpSet.is_symbol_table g.D.CallSet.call g.D.CallSet.returned c.args.root
-    c.args.ctx.now c.args.ctx.now c.args.tally.now.left c.in_err-turns.field-0.0
+    passed_on (IsCutShort g.D.OpSet.is_symbol g.D.OpSet.is_symbol_table g.D.CallSet.call g.D.CallSet.returned
+    c.args.root c.args.ctx.now c.args.ctx.now c.args.tally.now.left) c.from_residual-in_err-turns.result
+    c.from_residual-in_err-turns.ensures.1
+    (cut-here c.in_err-turns.field-0.0
     (any-refusal g.D.OpSet.is_symbol g.D.OpSet.is_symbol_table g.D.CallSet.call g.D.CallSet.returned c.args.ctx.now
     c.args.root c.in_ok-calls.calls.items c.in_ok-calls.ensures c.in_err-turns.field-0.0
     (subst (λ xs. IsAnyRefusal g.D.OpSet.is_symbol g.D.OpSet.is_symbol_table g.D.CallSet.call c.args.ctx.now
     c.args.root xs c.in_err-turns.field-0.0) c.deref-2.ensures.value c.in_err-turns.ensures.refused))
-    (same-live c.args.ctx.now)))
+    (same_live c.args.ctx.now))
 
 pub returns-in_default-clause-part : goal.returns-in_default-clause-part
-returns-in_default-clause-part g c =
-    part-none g.D.OpSet.is_symbol g.D.OpSet.is_symbol_table g.D.CallSet.call g.D.CallSet.returned c.args.root
-    c.args.ctx.now c.args.tally.now
+returns-in_default-clause-part g c = part-none
 
 pub returns-in_default-clause-ended : goal.returns-in_default-clause-ended
 returns-in_default-clause-ended g c =
@@ -84,16 +74,14 @@ take-requires-clause-ready g c =
 
 pub returns-in_err-take-clause-err : goal.returns-in_err-take-clause-err
 returns-in_err-take-clause-err g c =
-    if-err (IsCutShort g.D.OpSet.is_symbol g.D.OpSet.is_symbol_table g.D.CallSet.call g.D.CallSet.returned c.args.root
-    c.args.ctx.now c.take.new.ctx c.args.tally.now.left) c.from_residual-in_err-take.result
-    c.from_residual-in_err-take.ensures.1 (λ y q.
-    subst (IsCutShort g.D.OpSet.is_symbol g.D.OpSet.is_symbol_table g.D.CallSet.call g.D.CallSet.returned c.args.root
-    c.args.ctx.now c.take.new.ctx c.args.tally.now.left) (sym q)
-    (c.in_err-take.ensures.err))
+    passed_on (IsCutShort g.D.OpSet.is_symbol g.D.OpSet.is_symbol_table g.D.CallSet.call g.D.CallSet.returned
+    c.args.root c.args.ctx.now c.take.new.ctx c.args.tally.now.left) c.from_residual-in_err-take.result
+    c.from_residual-in_err-take.ensures.1
+    (c.in_err-take.ensures.err)
 
 pub returns-in_err-take-clause-agree_still : goal.returns-in_err-take-clause-agree_still
 returns-in_err-take-clause-agree_still g c =
-    on-err _ c.from_residual-in_err-take.result c.in_err-take.ensures.agree_still
+    on_err c.from_residual-in_err-take.result c.in_err-take.ensures.agree_still
 
 pub returns-then-branch-clause-ended : goal.returns-then-branch-clause-ended
 returns-then-branch-clause-ended g c = c.in_ok-take.ensures.over c.if-branch.true
@@ -109,25 +97,19 @@ try_turns-requires-clause-fits g c = omega (arith, c.in_ok-take.ensures.fits, c.
 
 pub returns-in_err-try_turns-clause-err : goal.returns-in_err-try_turns-clause-err
 returns-in_err-try_turns-clause-err g c =
-    if-err (IsCutShort g.D.OpSet.is_symbol g.D.OpSet.is_symbol_table g.D.CallSet.call g.D.CallSet.returned c.args.root
-    c.args.ctx.now c.try_turns.new.ctx c.args.tally.now.left) c.from_residual-in_err-try_turns.result
-    c.from_residual-in_err-try_turns.ensures.1 (λ y q.
-    subst (IsCutShort g.D.OpSet.is_symbol g.D.OpSet.is_symbol_table g.D.CallSet.call g.D.CallSet.returned c.args.root
-    c.args.ctx.now c.try_turns.new.ctx c.args.tally.now.left) (sym q)
-    (cut-on g.D.OpSet.is_symbol g.D.OpSet.is_symbol_table g.D.CallSet.call g.D.CallSet.returned c.args.root
-    c.args.ctx.now c.take.new.ctx c.try_turns.new.ctx c.args.tally.now c.take.new.tally
-    c.in_err-try_turns.field-0.0 c.in_ok-take.ensures.part c.in_err-try_turns.ensures.err))
+    passed_on (IsCutShort g.D.OpSet.is_symbol g.D.OpSet.is_symbol_table g.D.CallSet.call g.D.CallSet.returned
+    c.args.root c.args.ctx.now c.try_turns.new.ctx c.args.tally.now.left) c.from_residual-in_err-try_turns.result
+    c.from_residual-in_err-try_turns.ensures.1
+    (cut-on c.in_ok-take.ensures.part c.in_err-try_turns.ensures.err)
 
 pub returns-in_err-try_turns-clause-agree_still : goal.returns-in_err-try_turns-clause-agree_still
 returns-in_err-try_turns-clause-agree_still g c =
-    on-err _ c.from_residual-in_err-try_turns.result
+    on_err c.from_residual-in_err-try_turns.result
     (λ d k. c.in_err-try_turns.ensures.agree_still d (c.in_ok-take.ensures.sure_still d k))
 
 pub returns-then-branch-2-clause-part : goal.returns-then-branch-2-clause-part
 returns-then-branch-2-clause-part g c =
-    part-on g.D.OpSet.is_symbol g.D.OpSet.is_symbol_table g.D.CallSet.call g.D.CallSet.returned c.args.root
-    c.args.ctx.now c.take.new.ctx c.try_turns.new.ctx c.args.tally.now c.take.new.tally c.try_turns.new.tally
-    c.in_ok-take.ensures.part c.in_ok-try_turns.ensures.part
+    part-on c.in_ok-take.ensures.part c.in_ok-try_turns.ensures.part
 
 pub returns-then-branch-2-clause-ended : goal.returns-then-branch-2-clause-ended
 returns-then-branch-2-clause-ended g c = c.in_ok-try_turns.ensures.over c.if-branch-2.true
@@ -138,9 +120,7 @@ returns-then-branch-2-clause-sure_still g c = λ d k.
 
 pub returns-clause-part : goal.returns-clause-part
 returns-clause-part g c =
-    part-on g.D.OpSet.is_symbol g.D.OpSet.is_symbol_table g.D.CallSet.call g.D.CallSet.returned c.args.root
-    c.args.ctx.now c.take.new.ctx c.try_turns.new.ctx c.args.tally.now c.take.new.tally c.try_turns.new.tally
-    c.in_ok-take.ensures.part c.in_ok-try_turns.ensures.part
+    part-on c.in_ok-take.ensures.part c.in_ok-try_turns.ensures.part
 
 pub returns-clause-ended : goal.returns-clause-ended
 returns-clause-ended g c =
