@@ -35,6 +35,7 @@ use Rattle.plir_walk.specs.NodeLaws.{ptr-tells, block-tells, reach-leaf}
 use Rattle.plir_folding.specs.Worth.{Integer, maker_of, held_at, made_by, folded}
 use Rattle.plir_folding.specs.Folded.{ArePaired, constant_view, result_of, written_at, IsNewConstantOf, IsForUser}
 use Rattle.plir_folding.specs.Folded.{IsReplaced, IsSameOrReplaced, IsFolded}
+use Rattle.plir_folding.specs.Folding.{IsFilledBefore}
 use Rattle.plir_folding.proofs.Worths.{maker-entity, folded-worth, folded-typed, folded-unknown}
 use Rattle.plir_folding.proofs.Backwards.{operand-live}
 use Rattle.plir_folding.proofs.Folds.{paired-self}
@@ -152,7 +153,7 @@ module _ {K A T : Type 0} where
       there : op_at v c ≡ Some (constant_view n loc)
       there = edited.ops c new-live-u apart ∙ new-op-u ∙ holds
 
-      pub new-constant : IsNewConstantOf s v c n
+      new-constant : IsNewConstantOf s v c n
       new-constant = record {
         live = edited.keeps.live (Operation c) ∙ new-live-u;
         new = made.new;
@@ -288,7 +289,7 @@ module _ {K A T : Type 0} where
         among = λ m h. absurd h;
       }
 
-      pub folded-one : IsWellFormed own s → IsFolded fold s v
+      folded-one : IsWellFormed own s → IsFolded fold s v
       folded-one whole = record {
         live = λ m l. edited.keeps.live m ∙ live-u m l;
         new = λ m l e. (c, (n, (only-new m l e, new-constant)));
@@ -305,6 +306,9 @@ module _ {K A T : Type 0} where
         given = λ m g. edited.keeps.given m ∙ moved-given t.nodes u.nodes (Operation c) at.moved m ∙ made.keeps.given m g;
       }
 
-      pub filled-one : (xs ys : List IRNode) → children s (BasicBlock b) ≡ xs ++ Operation op ∷ ys
-          → (ks : List IRNode) × (children v (BasicBlock b) ≡ xs ++ (ks ++ Operation op ∷ ys))
+      filled-one : IsFilledBefore s v b op
       filled-one xs ys e = (Operation c ∷ [], edited.keeps.children (BasicBlock b) ∙ (now xs ys e).children_over)
+
+      -- all that is left of it
+      pub done : IsWellFormed own s → IsFolded fold s v × IsNewConstantOf s v c n × IsFilledBefore s v b op
+      done whole = (folded-one whole, new-constant, filled-one)

@@ -1,5 +1,5 @@
 -- What is listed, and what waits to be done.
-use Rattle.std.proofs.Common.{◌≡◌, ◌<◌, ◌≤◌, ◌+◌, ◌^◌, ℕ, arith, Bool, true, false, cond, List, [], ◌∷◌, ◌++◌, length}
+use Rattle.std.proofs.Common.{◌≡◌, ◌<◌, ◌+◌, ◌^◌, ℕ, arith, Bool, true, false, cond, List, [], ◌∷◌, ◌++◌, length}
 use Rattle.std.proofs.Common.{◌⊎◌, inl, inr, refl, sym, ap, subst, ◌∙◌, length-append, true≢false}
 use Rattle.std.specs.Prelude.{◌≢◌, ◌&&◌, nat_eq}
 use Rattle.std.specs.List.{list_any}
@@ -12,7 +12,7 @@ use Rattle.plir_walk.specs.NodeLaws.{same_ptr_tells}
 use Rattle.plir_folding.specs.declared.worklist.Step.{Step}
 use Rattle.plir_folding.specs.declared.worklist.Step.TheVariants.{Prepare, Fold}
 use Rattle.plir_folding.specs.declared.worklist.Worklist.{Worklist}
-use Rattle.plir_folding.specs.Worklists.{AreOf, IsListed, IsPrepared, IsPut, WaitMore, left_to_do, op_of, ptr_eq}
+use Rattle.plir_folding.specs.Worklists.{AreOf, IsListed, IsPrepared, IsPut, WaitMore, op_of, ptr_eq}
 
 -- ---- pointers
 
@@ -85,9 +85,6 @@ removed-listed w w' p updates q h = go (ptr_eq p q) (sym (updates q) ∙ h)
 still-listed : (w w' : Worklist) (p : Ptr OperationKind) → w'.listed.keys ≡ w.listed.keys → IsListed w' p → IsListed w p
 still-listed w w' p e h = ap (λ ks. list_any (ptr_eq p) ks) (sym e) ∙ h
 
-pub more-none : (n : ℕ) (w : Worklist) → WaitMore n w w
-more-none n w = record { same = refl; waits = λ x h. inl h; most = omega arith }
-
 pub more-one : (w w' : Worklist) (p : Ptr OperationKind) → IsListed w p → w'.listed.keys ≡ w.listed.keys
     → w'.waiting.items ≡ w.waiting.items ++ Prepare p ∷ [] → WaitMore 1 w w'
 more-one w w' p is same behind = record {
@@ -99,29 +96,7 @@ more-one w w' p is same behind = record {
   most = (let e = ap length behind ∙ longer w.waiting.items (Prepare p) in omega (arith, e));
 }
 
-pub more-then : (a b : ℕ) (w m t : Worklist) → WaitMore a w m → WaitMore b m t → WaitMore (a + b) w t
-more-then a b w m t h k = record {
-  same = k.same ∙ h.same;
-  waits = λ x i. elim (k.waits x i) [
-    | inl y ↦ h.waits x y
-    | inr y ↦ inr (still-listed w m (op_of x) h.same y)
-  ];
-  most = (let e = h.most in let f = k.most in omega (arith, e, f));
-}
-
-pub more-up : (i n : ℕ) (w w' : Worklist) → i ≤ n → WaitMore i w w' → WaitMore n w w'
-more-up i n w w' up h =
-    record { same = h.same; waits = h.waits; most = (let e = h.most in omega (arith, e, up)) }
-
 -- ---- one is prepared
-
-pub prepared-none : (w w' : Worklist) → w'.listed.keys ≡ w.listed.keys → w'.waiting.items ≡ w.waiting.items
-    → IsPrepared w w'
-prepared-none w w' keys items = record {
-  listed = λ q h. still-listed w w' q keys h;
-  waits = λ x h. inl (subst (λ z. Has z x) items h);
-  left = (let e = ap length keys in let f = ap length items in omega (arith, e, f));
-}
 
 -- one was removed from what is listed, it waits to be folded, and then others wait
 pub prepared-one : (w m t w' : Worklist) (p : Ptr OperationKind) (n : ℕ) → IsListed w p
@@ -180,10 +155,3 @@ module _ (P : Ptr OperationKind → Type 0) where
       listed = λ p k. h.listed p (still-listed w w' p keys k);
       waits = λ y k. h.waits y (subst (λ z. Has z y) (sym taken) (Has-append_left w'.waiting.items (x ∷ []) y k));
     }
-
-pub taken-less : (w w' : Worklist) (x : Step) → w'.listed.keys ≡ w.listed.keys
-    → w.waiting.items ≡ w'.waiting.items ++ x ∷ [] → left_to_do w' < left_to_do w
-taken-less w w' x keys taken =
-    let e = ap length taken ∙ longer w'.waiting.items x in
-    let f = ap length keys in
-    omega (arith, e, f)

@@ -1,8 +1,31 @@
 use Rattle.std.proofs.Common.{arith, inl, inr}
 use Rattle.plir_core.specs.declared.ptr.IRNode.TheVariants.{Operation}
+use Rattle.plir_folding.specs.Folding.{IsFoldedBelow}
 use Rattle.plir_folding.proofs.Below.{below-then}
 use Rattle.plir_folding.proofs.Room.{less-room, no-more-room}
+use Rattle.plir_folding.proofs.folding.fold_constants.Given.{Over}
+use Rattle.plir_folding.proofs.folding.fold_constants.Goals.{After-fold_round-in-rounds, After-fold_makers_first}
 use Rattle.plir_folding.proofs.folding.fold_constants.Goals as goal
+
+-- what rounds have folded, one more among them
+after-round : (g : Over) (c : After-fold_round-in-rounds g)
+    → IsFoldedBelow g.D.FoldSet.fold g.D.OpSet.attr_handles c.args.ctx.now (Operation c.args.root)
+    c.fold_round-in-rounds.new.ctx
+after-round g c =
+    below-then g.D.FoldSet.fold g.D.OpSet.attr_handles c.lawful_changes.ensures c.args.ctx.now c.rounds.ctx
+    c.fold_round-in-rounds.new.ctx (Operation c.args.root) c.stands.ensures.whole c.rounds.invariant.0
+    c.fold_round-in-rounds.ensures.below
+
+-- and then the operations that are listed
+after-makers : (g : Over) (c : After-fold_makers_first g)
+    → IsFoldedBelow g.D.FoldSet.fold g.D.OpSet.attr_handles c.args.ctx.now (Operation c.args.root)
+    c.fold_round-in-rounds.new.ctx
+    → IsFoldedBelow g.D.FoldSet.fold g.D.OpSet.attr_handles c.args.ctx.now (Operation c.args.root)
+    c.fold_makers_first.new.ctx
+after-makers g c first =
+    below-then g.D.FoldSet.fold g.D.OpSet.attr_handles c.lawful_changes.ensures c.args.ctx.now
+    c.fold_round-in-rounds.new.ctx c.fold_makers_first.new.ctx (Operation c.args.root) c.stands.ensures.whole first
+    c.fold_makers_first.ensures.below
 
 pub returns-in_err-found-clause-folded : goal.returns-in_err-found-clause-folded
 returns-in_err-found-clause-folded g c = c.in_err-found.ensures.below.folded
@@ -47,18 +70,12 @@ fold_makers_first-requires g c =
 
 pub rounds-preserved : goal.rounds-preserved
 rounds-preserved g c =
-    let laws = c.lawful_changes.ensures in
-    let s = c.args.ctx.now in
-    let t = c.fold_round-in-rounds.new.ctx in
-    let u = c.fold_makers_first.new.ctx in
-    let r = Operation c.args.root in
-    let fold = g.D.FoldSet.fold in
-    let own = g.D.OpSet.attr_handles in
-    let whole = c.stands.ensures.whole in
-    let f =
-    below-then fold own laws s c.rounds.ctx t r whole c.rounds.invariant.0 c.in_ok-changed.ensures.below in
-    let h = below-then fold own laws s t u r whole f c.in_ok-fold_makers_first.ensures.below in
-    (h, laws.stays s u r c.stands.ensures.standing.forest h.lawful c.requires)
+    let at = goal.at.rounds-preserved g c in
+    let h = after-makers g at.After-fold_makers_first (after-round g at.After-fold_round-in-rounds) in (
+      h,
+      c.lawful_changes.ensures.stays c.args.ctx.now c.fold_makers_first.new.ctx (Operation c.args.root)
+          c.stands.ensures.standing.forest h.lawful c.requires,
+    )
 
 pub rounds-smaller : goal.rounds-smaller
 rounds-smaller g c =
@@ -82,61 +99,35 @@ returns-then-not-changed-clause-settled g c = c.in_ok-changed.ensures.told.settl
 
 pub returns-then-not-changed-clause-folded : goal.returns-then-not-changed-clause-folded
 returns-then-not-changed-clause-folded g c =
-    (below-then g.D.FoldSet.fold g.D.OpSet.attr_handles c.lawful_changes.ensures c.args.ctx.now c.rounds.ctx
-    c.fold_round-in-rounds.new.ctx (Operation c.args.root) c.stands.ensures.whole c.rounds.invariant.0
-    c.in_ok-changed.ensures.below).folded
+    (after-round g (goal.at.returns-then-not-changed-clause-folded g c).After-fold_round-in-rounds).folded
 
 pub returns-then-not-changed-clause-lawful : goal.returns-then-not-changed-clause-lawful
 returns-then-not-changed-clause-lawful g c =
-    (below-then g.D.FoldSet.fold g.D.OpSet.attr_handles c.lawful_changes.ensures c.args.ctx.now c.rounds.ctx
-    c.fold_round-in-rounds.new.ctx (Operation c.args.root) c.stands.ensures.whole c.rounds.invariant.0
-    c.in_ok-changed.ensures.below).lawful
+    (after-round g (goal.at.returns-then-not-changed-clause-lawful g c).After-fold_round-in-rounds).lawful
 
 pub returns-then-not-changed-clause-whole : goal.returns-then-not-changed-clause-whole
 returns-then-not-changed-clause-whole g c = c.in_ok-changed.ensures.below.whole
 
 pub returns-in_err-changed-clause-folded : goal.returns-in_err-changed-clause-folded
 returns-in_err-changed-clause-folded g c =
-    (below-then g.D.FoldSet.fold g.D.OpSet.attr_handles c.lawful_changes.ensures c.args.ctx.now c.rounds.ctx
-    c.fold_round-in-rounds.new.ctx (Operation c.args.root) c.stands.ensures.whole c.rounds.invariant.0
-    c.in_err-changed.ensures.below).folded
+    (after-round g (goal.at.returns-in_err-changed-clause-folded g c).After-fold_round-in-rounds).folded
 
 pub returns-in_err-changed-clause-lawful : goal.returns-in_err-changed-clause-lawful
 returns-in_err-changed-clause-lawful g c =
-    (below-then g.D.FoldSet.fold g.D.OpSet.attr_handles c.lawful_changes.ensures c.args.ctx.now c.rounds.ctx
-    c.fold_round-in-rounds.new.ctx (Operation c.args.root) c.stands.ensures.whole c.rounds.invariant.0
-    c.in_err-changed.ensures.below).lawful
+    (after-round g (goal.at.returns-in_err-changed-clause-lawful g c).After-fold_round-in-rounds).lawful
 
 pub returns-in_err-changed-clause-whole : goal.returns-in_err-changed-clause-whole
 returns-in_err-changed-clause-whole g c = c.in_err-changed.ensures.below.whole
 
 pub returns-in_err-fold_makers_first-clause-folded : goal.returns-in_err-fold_makers_first-clause-folded
 returns-in_err-fold_makers_first-clause-folded g c =
-    let fold = g.D.FoldSet.fold in
-    let own = g.D.OpSet.attr_handles in
-    let laws = c.lawful_changes.ensures in
-    let s = c.args.ctx.now in
-    let t = c.fold_round-in-rounds.new.ctx in
-    let r = Operation c.args.root in
-    let whole = c.stands.ensures.whole in
-    let f =
-    below-then fold own laws s c.rounds.ctx t r whole c.rounds.invariant.0 c.in_ok-changed.ensures.below in
-    (below-then fold own laws s t c.fold_makers_first.new.ctx r whole f
-    c.in_err-fold_makers_first.ensures.below).folded
+    let at = goal.at.returns-in_err-fold_makers_first-clause-folded g c in
+    (after-makers g at.After-fold_makers_first (after-round g at.After-fold_round-in-rounds)).folded
 
 pub returns-in_err-fold_makers_first-clause-lawful : goal.returns-in_err-fold_makers_first-clause-lawful
 returns-in_err-fold_makers_first-clause-lawful g c =
-    let fold = g.D.FoldSet.fold in
-    let own = g.D.OpSet.attr_handles in
-    let laws = c.lawful_changes.ensures in
-    let s = c.args.ctx.now in
-    let t = c.fold_round-in-rounds.new.ctx in
-    let r = Operation c.args.root in
-    let whole = c.stands.ensures.whole in
-    let f =
-    below-then fold own laws s c.rounds.ctx t r whole c.rounds.invariant.0 c.in_ok-changed.ensures.below in
-    (below-then fold own laws s t c.fold_makers_first.new.ctx r whole f
-    c.in_err-fold_makers_first.ensures.below).lawful
+    let at = goal.at.returns-in_err-fold_makers_first-clause-lawful g c in
+    (after-makers g at.After-fold_makers_first (after-round g at.After-fold_round-in-rounds)).lawful
 
 pub returns-in_err-fold_makers_first-clause-whole : goal.returns-in_err-fold_makers_first-clause-whole
 returns-in_err-fold_makers_first-clause-whole g c = c.in_err-fold_makers_first.ensures.below.whole

@@ -1,10 +1,25 @@
 use Rattle.std.proofs.Common.{subst}
 use Rattle.plir_core.specs.declared.ptr.IRNode.TheVariants.{Operation}
 use Rattle.plir_core.specs.Forest.{look, IsBelow}
-use Rattle.plir_folding.specs.Worklists.{op_of}
+use Rattle.plir_folding.specs.Worklists.{AreOf, op_of}
 use Rattle.plir_folding.proofs.Below.{below-none, step-folded, step-live}
 use Rattle.plir_folding.proofs.Worklists.{of-left, of-prepared, of-taken}
+use Rattle.plir_folding.proofs.folding.fold_makers_first.Given.{Over}
+use Rattle.plir_folding.proofs.folding.fold_makers_first.Goals.{In-Some}
 use Rattle.plir_folding.proofs.folding.fold_makers_first.Goals as goal
+
+-- the operation of the step that is taken stands below the root, and so do those of the steps that are left
+taken : (g : Over) (c : In-Some g)
+    → IsBelow (look c.args.ctx.now) (Operation c.args.root) (Operation (op_of c.in-Some.step))
+taken g c =
+    of-taken _ c.steps.list c.take.new.self c.in-Some.step c.in-Some.ensures.listed c.in-Some.ensures.waiting
+    c.steps.invariant.1
+
+left : (g : Over) (c : In-Some g)
+    → AreOf (λ p. IsBelow (look c.args.ctx.now) (Operation c.args.root) (Operation p)) c.take.new.self
+left g c =
+    of-left _ c.steps.list c.take.new.self c.in-Some.step c.in-Some.ensures.listed c.in-Some.ensures.waiting
+    c.steps.invariant.1
 
 pub returns-in_err-list-clause-below : goal.returns-in_err-list-clause-below
 returns-in_err-list-clause-below g c =
@@ -20,44 +35,32 @@ steps-init g c = (
 
 pub prepare-requires : goal.prepare-requires
 prepare-requires g c =
-    let below =
-    of-taken _ c.steps.list c.take.new.self c.in-Some.step c.in-Some.ensures.listed c.in-Some.ensures.waiting
-    c.steps.invariant.1 in
+    let below = taken g (goal.at.prepare-requires g c).In-Some in
     step-live c.lawful_changes.ensures c.stands.ensures.whole c.steps.invariant.0 c.in-Prepare.op
     (subst (λ z. IsBelow (look c.args.ctx.now) (Operation c.args.root) (Operation (op_of z))) c.in-Prepare.is below)
 
 pub steps-preserved-in-Continue-branch-2 : goal.steps-preserved-in-Continue-branch-2
 steps-preserved-in-Continue-branch-2 g c =
-    let left =
-    of-left _ c.steps.list c.take.new.self c.in-Some.step c.in-Some.ensures.listed c.in-Some.ensures.waiting
-    c.steps.invariant.1 in
-    (c.steps.invariant.0, of-prepared _ c.take.new.self c.prepare.new.self left c.in_ok-prepare-in-Prepare.ensures)
+    let rest = left g (goal.at.steps-preserved-in-Continue-branch-2 g c).In-Some in
+    (c.steps.invariant.0, of-prepared _ c.take.new.self c.prepare.new.self rest c.in_ok-prepare-in-Prepare.ensures)
 
 pub fold_there-requires : goal.fold_there-requires
 fold_there-requires g c =
-    let below =
-    of-taken _ c.steps.list c.take.new.self c.in-Some.step c.in-Some.ensures.listed c.in-Some.ensures.waiting
-    c.steps.invariant.1 in
+    let below = taken g (goal.at.fold_there-requires g c).In-Some in
     step-live c.lawful_changes.ensures c.stands.ensures.whole c.steps.invariant.0 c.in-Fold.op
     (subst (λ z. IsBelow (look c.args.ctx.now) (Operation c.args.root) (Operation (op_of z))) c.in-Fold.is below)
 
 pub steps-preserved : goal.steps-preserved
 steps-preserved g c =
-    let below =
-    of-taken _ c.steps.list c.take.new.self c.in-Some.step c.in-Some.ensures.listed c.in-Some.ensures.waiting
-    c.steps.invariant.1 in
-    let left =
-    of-left _ c.steps.list c.take.new.self c.in-Some.step c.in-Some.ensures.listed c.in-Some.ensures.waiting
-    c.steps.invariant.1 in (
+    let below = taken g (goal.at.steps-preserved g c).In-Some in
+    let rest = left g (goal.at.steps-preserved g c).In-Some in (
       step-folded c.lawful_changes.ensures c.stands.ensures.whole c.steps.invariant.0 c.in-Fold.op
           (subst (λ z. IsBelow (look c.args.ctx.now) (Operation c.args.root) (Operation (op_of z))) c.in-Fold.is below) c.requires c.in_ok-fold_there-in-Fold.ensures.below,
-      left,
+      rest,
     )
 
 pub returns-in_err-fold_there-in-Fold-clause-below : goal.returns-in_err-fold_there-in-Fold-clause-below
 returns-in_err-fold_there-in-Fold-clause-below g c =
-    let below =
-    of-taken _ c.steps.list c.take.new.self c.in-Some.step c.in-Some.ensures.listed c.in-Some.ensures.waiting
-    c.steps.invariant.1 in
+    let below = taken g (goal.at.returns-in_err-fold_there-in-Fold-clause-below g c).In-Some in
     step-folded c.lawful_changes.ensures c.stands.ensures.whole c.steps.invariant.0 c.in-Fold.op
     (subst (λ z. IsBelow (look c.args.ctx.now) (Operation c.args.root) (Operation (op_of z))) c.in-Fold.is below) c.requires c.in_err-fold_there-in-Fold.ensures.below

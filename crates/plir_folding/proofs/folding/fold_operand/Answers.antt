@@ -5,15 +5,48 @@ use Rattle.plir_core.specs.declared.ptr.IRNode.TheVariants.{Operation, BasicBloc
 use Rattle.plir_core.specs.Forest.{look}
 use Rattle.plir_core.specs.Changes.{with_op_edit}
 use Rattle.plir_core.specs.Held.{IsOpEdited}
-use Rattle.plir_core.specs.ContextView.{operands_in, results_in}
+use Rattle.plir_core.specs.ContextView.{IsLive, operands_in, results_in}
 use Rattle.plir_walk.specs.Lawful.{Lawful}
 use Rattle.plir_folding.specs.Worth.{integer_of, folded}
-use Rattle.plir_folding.specs.Folded.{result_of}
+use Rattle.plir_folding.specs.Folded.{IsFolded, IsNewConstantOf, result_of}
+use Rattle.plir_folding.specs.Folding.{IsFilledBefore}
 use Rattle.plir_folding.proofs.Folds.{tells-none}
 use Rattle.plir_folding.proofs.Below.{below-none, below-refused}
-use Rattle.plir_folding.proofs.OneFold.{live-u, new-live-u, op-u, new-op-u, lawful-fold, new-constant, folded-one}
-use Rattle.plir_folding.proofs.OneFold.{filled-one, replaced_in}
+use Rattle.plir_folding.proofs.OneFold.{done, live-u, new-live-u, op-u, new-op-u, lawful-fold, replaced_in}
+use Rattle.plir_folding.proofs.folding.fold_operand.Given.{Over}
+use Rattle.plir_folding.proofs.folding.fold_operand.Goals.{After-insert_before, After-replace_operand}
 use Rattle.plir_folding.proofs.folding.fold_operand.Goals as goal
+
+-- the operation stays live
+op-stays : (g : Over) (c : After-insert_before g) → IsLive c.insert_before.new.ctx (Operation c.args.op)
+op-stays g c =
+    live-u g.D.OpSet.attr_handles c.args.ctx.now c.new_constant.new.ctx c.insert_before.new.ctx c.args.block c.args.op
+    c.in_ok-constant.constant c.stands.ensures.standing.forest
+    c.requires.here c.in_ok-constant.ensures.made c.insert_before.ensures.placed (Operation c.args.op) c.requires.live
+
+-- the constant takes the place of the operand
+after : (g : Over) (c : After-replace_operand g) → c.replace_operand.new.ctx
+    ≡ with_op_edit c.insert_before.new.ctx c.args.op (replaced_in c.args.place (result_of c.in_ok-constant.constant))
+after g c =
+    c.replace_operand.ensures.after
+    ∙ ap (λ z. with_op_edit c.insert_before.new.ctx c.args.op (replaced_in c.args.place z)) c.get_result-result.ensures.value
+
+-- the operand is folded by it, and it stands right before the operation
+folded-here : (g : Over) (c : After-replace_operand g)
+    → IsFolded g.D.FoldSet.fold c.args.ctx.now c.replace_operand.new.ctx
+    × IsNewConstantOf c.args.ctx.now c.replace_operand.new.ctx c.in_ok-constant.constant (integer_of c.in-Some.integer)
+    × IsFilledBefore c.args.ctx.now c.replace_operand.new.ctx c.args.block c.args.op
+folded-here g c =
+    let u = c.insert_before.new.ctx in
+    let e = c.in_ok-constant.ensures in
+    let f = replaced_in c.args.place (result_of c.in_ok-constant.constant) in
+    let edited = subst (λ z. IsOpEdited u z c.args.op f) (sym (after g c)) (c.op_edits_keep_the_rest.ensures f) in
+    done g.D.OpSet.attr_handles c.args.ctx.now c.new_constant.new.ctx u c.args.block c.args.op c.in_ok-constant.constant
+    c.stands.ensures.standing.forest c.requires.here e.made c.insert_before.ensures.placed g.D.FoldSet.fold
+    c.replace_operand.new.ctx c.args.place (integer_of c.in-Some.integer) c.written_at-location.result
+    c.get_operand-value.result (c.lawful_changes.ensures.forest c.new_constant.new.ctx e.whole) e.held e.leaf
+    c.written_at-location.ensures e.types (ap (λ z. z.types) c.insert_before.ensures.after) edited
+    c.get_operand-value.ensures.value (sym c.in-Some.ensures.value) c.stands.ensures.whole
 
 pub returns-in_default-clause-below : goal.returns-in_default-clause-below
 returns-in_default-clause-below g c =
@@ -44,10 +77,7 @@ pub insert_before-requires-clause-not_above : goal.insert_before-requires-clause
 insert_before-requires-clause-not_above g c = c.in_ok-constant.ensures.made.apart (Operation c.args.op) c.requires.live
 
 pub op_edits_keep_the_rest-requires : goal.op_edits_keep_the_rest-requires
-op_edits_keep_the_rest-requires g c =
-    live-u g.D.OpSet.attr_handles c.args.ctx.now c.new_constant.new.ctx c.insert_before.new.ctx c.args.block c.args.op
-    c.in_ok-constant.constant c.stands.ensures.standing.forest
-    c.requires.here c.in_ok-constant.ensures.made c.insert_before.ensures.placed (Operation c.args.op) c.requires.live
+op_edits_keep_the_rest-requires g c = op-stays g (goal.at.op_edits_keep_the_rest-requires g c).After-insert_before
 
 pub get_result-result-requires-clause-live : goal.get_result-result-requires-clause-live
 get_result-result-requires-clause-live g c =
@@ -64,10 +94,7 @@ get_result-result-requires-clause-below g c =
     subst (λ z. 0 < length (results_in z)) (sym (same ∙ c.in_ok-constant.ensures.held)) (omega arith)
 
 pub replace_operand-requires-clause-live : goal.replace_operand-requires-clause-live
-replace_operand-requires-clause-live g c =
-    live-u g.D.OpSet.attr_handles c.args.ctx.now c.new_constant.new.ctx c.insert_before.new.ctx c.args.block c.args.op
-    c.in_ok-constant.constant c.stands.ensures.standing.forest
-    c.requires.here c.in_ok-constant.ensures.made c.insert_before.ensures.placed (Operation c.args.op) c.requires.live
+replace_operand-requires-clause-live g c = op-stays g (goal.at.replace_operand-requires-clause-live g c).After-insert_before
 
 pub replace_operand-requires-clause-below : goal.replace_operand-requires-clause-below
 replace_operand-requires-clause-below g c =
@@ -90,87 +117,33 @@ returns-in_err-constant-clause-filled g c =
 pub returns-clause-below : goal.returns-clause-below
 returns-clause-below g c =
     let own = g.D.OpSet.attr_handles in
-    let fold = g.D.FoldSet.fold in
     let laws = c.lawful_changes.ensures in
     let s = c.args.ctx.now in
-    let t = c.new_constant.new.ctx in
     let u = c.insert_before.new.ctx in
-    let v = c.replace_operand.new.ctx in
     let b = c.args.block in
-    let op = c.args.op in
-    let k = c.in_ok-constant.constant in
-    let e = c.in_ok-constant.ensures in
-    let w = c.stands.ensures.standing.forest in
-    let f = replaced_in c.args.place (result_of k) in
-    let after : v ≡ with_op_edit u op f =
-    c.replace_operand.ensures.after
-    ∙ ap (λ z. with_op_edit u op (replaced_in c.args.place z)) c.get_result-result.ensures.value in
-    let edited = subst (λ z. IsOpEdited u z op f) (sym after) (c.op_edits_keep_the_rest.ensures f) in
+    let at = goal.at.returns-clause-below g c in
     let lawful =
-    subst (λ z. Lawful (look u) (BasicBlock b) (look z)) (sym after) (laws.op_edit u (BasicBlock b) op f) in
+    subst (λ z. Lawful (look u) (BasicBlock b) (look z)) (sym (after g at.After-replace_operand))
+    (laws.op_edit u (BasicBlock b) c.args.op (replaced_in c.args.place (result_of c.in_ok-constant.constant))) in
     record {
-      folded =
-          folded-one own s t u b op k w c.requires.here e.made c.insert_before.ensures.placed fold v
-          c.args.place (integer_of c.in-Some.integer) c.written_at-location.result c.get_operand-value.result
-          (laws.forest t e.whole) e.held e.leaf c.written_at-location.ensures e.types (ap (λ z. z.types) c.insert_before.ensures.after) edited
-          c.get_operand-value.ensures.value (sym c.in-Some.ensures.value) c.stands.ensures.whole;
-      lawful = lawful-fold own s t u b op k w c.requires.here e.made c.insert_before.ensures.placed laws v lawful;
+      folded = (folded-here g at.After-replace_operand).0;
+      lawful = lawful-fold own s c.new_constant.new.ctx u b c.args.op c.in_ok-constant.constant
+          c.stands.ensures.standing.forest c.requires.here c.in_ok-constant.ensures.made c.insert_before.ensures.placed
+          laws c.replace_operand.new.ctx lawful;
       whole = c.replace_operand.ensures.whole;
     }
 
 pub returns-clause-told : goal.returns-clause-told
 returns-clause-told g c =
-    let own = g.D.OpSet.attr_handles in
-    let fold = g.D.FoldSet.fold in
-    let laws = c.lawful_changes.ensures in
-    let s = c.args.ctx.now in
-    let t = c.new_constant.new.ctx in
-    let u = c.insert_before.new.ctx in
-    let v = c.replace_operand.new.ctx in
-    let b = c.args.block in
-    let op = c.args.op in
-    let k = c.in_ok-constant.constant in
-    let e = c.in_ok-constant.ensures in
-    let w = c.stands.ensures.standing.forest in
-    let f = replaced_in c.args.place (result_of k) in
-    let after : v ≡ with_op_edit u op f =
-    c.replace_operand.ensures.after
-    ∙ ap (λ z. with_op_edit u op (replaced_in c.args.place z)) c.get_result-result.ensures.value in
-    let edited = subst (λ z. IsOpEdited u z op f) (sym after) (c.op_edits_keep_the_rest.ensures f) in
-    let made =
-    new-constant own s t u b op k w c.requires.here e.made c.insert_before.ensures.placed fold v
-    c.args.place (integer_of c.in-Some.integer) c.written_at-location.result c.get_operand-value.result
-    (laws.forest t e.whole) e.held e.leaf c.written_at-location.ensures e.types (ap (λ z. z.types) c.insert_before.ensures.after) edited
-    c.get_operand-value.ensures.value (sym c.in-Some.ensures.value) in
+    let made = (folded-here g (goal.at.returns-clause-told g c).After-replace_operand).1 in
     record {
       tells =
           record {
             clear = λ h. absurd (let z : ⊥ = cc h in z);
-            set = λ h. inr (k, (integer_of c.in-Some.integer, made));
+            set = λ h. inr (c.in_ok-constant.constant, (integer_of c.in-Some.integer, made));
           };
       settled = λ h. absurd (let z : ⊥ = cc h in z);
     }
 
 pub returns-clause-filled : goal.returns-clause-filled
-returns-clause-filled g c =
-    let own = g.D.OpSet.attr_handles in
-    let fold = g.D.FoldSet.fold in
-    let laws = c.lawful_changes.ensures in
-    let s = c.args.ctx.now in
-    let t = c.new_constant.new.ctx in
-    let u = c.insert_before.new.ctx in
-    let v = c.replace_operand.new.ctx in
-    let b = c.args.block in
-    let op = c.args.op in
-    let k = c.in_ok-constant.constant in
-    let e = c.in_ok-constant.ensures in
-    let w = c.stands.ensures.standing.forest in
-    let f = replaced_in c.args.place (result_of k) in
-    let after : v ≡ with_op_edit u op f =
-    c.replace_operand.ensures.after
-    ∙ ap (λ z. with_op_edit u op (replaced_in c.args.place z)) c.get_result-result.ensures.value in
-    let edited = subst (λ z. IsOpEdited u z op f) (sym after) (c.op_edits_keep_the_rest.ensures f) in
-    filled-one own s t u b op k w c.requires.here e.made c.insert_before.ensures.placed fold v
-    c.args.place (integer_of c.in-Some.integer) c.written_at-location.result c.get_operand-value.result
-    (laws.forest t e.whole) e.held e.leaf c.written_at-location.ensures e.types (ap (λ z. z.types) c.insert_before.ensures.after) edited
-    c.get_operand-value.ensures.value (sym c.in-Some.ensures.value)
+returns-clause-filled g c = (folded-here g (goal.at.returns-clause-filled g c).After-replace_operand).2

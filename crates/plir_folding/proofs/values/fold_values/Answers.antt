@@ -1,9 +1,24 @@
 use Rattle.std.proofs.Common.{arith, refl, sym, ◌∙◌}
 use Rattle.plir_core.specs.declared.ptr.IRNode.TheVariants.{Operation}
+use Rattle.plir_folding.specs.PassedOn.{IsPassedBelow}
 use Rattle.plir_folding.proofs.PassingOn.{below-none, below-then}
 use Rattle.plir_folding.proofs.Below.{below-live}
 use Rattle.plir_folding.proofs.Used.{fewer-used, no-more-used}
+use Rattle.plir_folding.proofs.values.fold_values.Given.{Over}
+use Rattle.plir_folding.proofs.values.fold_values.Goals.{After-pass_on_makers_first}
 use Rattle.plir_folding.proofs.values.fold_values.Goals as goal
+
+-- what has been passed on, by one round more
+passed : (g : Over) (c : After-pass_on_makers_first g)
+    → IsPassedBelow g.D.IdentitySet.is_identity g.D.OpSet.attr_handles c.args.ctx.now (Operation c.args.root)
+    c.pass_on_makers_first.new.ctx
+passed g c =
+    let then = below-then g.D.IdentitySet.is_identity g.D.OpSet.attr_handles c.lawful_changes.ensures c.args.ctx.now in
+    let r = Operation c.args.root in
+    let whole = c.stands.ensures.whole in
+    then c.pass_on.new.ctx c.pass_on_makers_first.new.ctx r whole
+    (then c.left.ctx c.pass_on.new.ctx r whole c.left.invariant.0 (c.pass_on.ensures.below r))
+    c.pass_on_makers_first.ensures
 
 pub left-init : goal.left-init
 left-init g c = (
@@ -28,18 +43,8 @@ pass_on_makers_first-requires g c =
 
 pub left-preserved : goal.left-preserved
 left-preserved g c =
-    let holds = g.D.IdentitySet.is_identity in
-    let own = g.D.OpSet.attr_handles in
-    let laws = c.lawful_changes.ensures in
-    let s = c.args.ctx.now in
-    let r = Operation c.args.root in
-    let t = c.pass_on.new.ctx in
-    let u = c.pass_on_makers_first.new.ctx in
-    let f = c.pass_on.ensures.below r in
-    let k = below-then holds own laws s c.left.ctx t r c.stands.ensures.whole c.left.invariant.0 f in
-    let all =
-    below-then holds own laws s t u r c.stands.ensures.whole k c.in_ok-pass_on_makers_first.ensures in
-    (all, all.passed.keeps.live r ∙ c.requires, λ none. absurd (let z : ⊥ = cc none in z))
+    let all = passed g (goal.at.left-preserved g c).After-pass_on_makers_first in
+    (all, all.passed.keeps.live (Operation c.args.root) ∙ c.requires, λ none. absurd (let z : ⊥ = cc none in z))
 
 pub left-smaller : goal.left-smaller
 left-smaller g c =
@@ -76,26 +81,8 @@ returns-clause-whole g c = c.left.invariant.0.whole
 
 pub returns-in_err-pass_on_makers_first-clause-passed : goal.returns-in_err-pass_on_makers_first-clause-passed
 returns-in_err-pass_on_makers_first-clause-passed g c =
-    let holds = g.D.IdentitySet.is_identity in
-    let own = g.D.OpSet.attr_handles in
-    let laws = c.lawful_changes.ensures in
-    let s = c.args.ctx.now in
-    let r = Operation c.args.root in
-    let t = c.pass_on.new.ctx in
-    let u = c.pass_on_makers_first.new.ctx in
-    let f = c.pass_on.ensures.below r in
-    let k = below-then holds own laws s c.left.ctx t r c.stands.ensures.whole c.left.invariant.0 f in
-    (below-then holds own laws s t u r c.stands.ensures.whole k c.in_err-pass_on_makers_first.ensures).passed
+    (passed g (goal.at.returns-in_err-pass_on_makers_first-clause-passed g c).After-pass_on_makers_first).passed
 
 pub returns-in_err-pass_on_makers_first-clause-lawful : goal.returns-in_err-pass_on_makers_first-clause-lawful
 returns-in_err-pass_on_makers_first-clause-lawful g c =
-    let holds = g.D.IdentitySet.is_identity in
-    let own = g.D.OpSet.attr_handles in
-    let laws = c.lawful_changes.ensures in
-    let s = c.args.ctx.now in
-    let r = Operation c.args.root in
-    let t = c.pass_on.new.ctx in
-    let u = c.pass_on_makers_first.new.ctx in
-    let f = c.pass_on.ensures.below r in
-    let k = below-then holds own laws s c.left.ctx t r c.stands.ensures.whole c.left.invariant.0 f in
-    (below-then holds own laws s t u r c.stands.ensures.whole k c.in_err-pass_on_makers_first.ensures).lawful
+    (passed g (goal.at.returns-in_err-pass_on_makers_first-clause-lawful g c).After-pass_on_makers_first).lawful
