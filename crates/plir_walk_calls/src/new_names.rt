@@ -27,14 +27,6 @@ fn node_behind<D: OpSet>(ctx: &Context<D>, root: IRNode, node: IRNode) -> Option
     None
 }
 
-/// Makes room for the names of so many nodes of each kind.
-pub fn reserve_names(made: &mut Made, room: usize) -> Result<(), Stop> {
-    made.ops.reserve(room)?;
-    made.regions.reserve(room)?;
-    made.blocks.reserve(room)?;
-    Ok(())
-}
-
 /// Gives names to a node and to all that stands below it.
 pub fn name_all<D: OpSet>(ctx: &Context<D>, made: &mut Made, root: IRNode) -> Result<(), Stop>
     requires { IsLive ctx.now root }

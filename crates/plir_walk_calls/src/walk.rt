@@ -9,7 +9,6 @@ mod operations;
 mod pass;
 mod plan;
 mod refused;
-mod walk_call;
 mod walking;
 
 pub use calls::play_in;

@@ -3,35 +3,18 @@ use crate::copies::copying::{clone_tree, copy};
 use plir_scripts::{Bench, Layer, Line, Mismatch, NodeCalls, SampleSet, ScriptSet, Stop, play};
 use std::alloc::Global;
 
-// A call that copies, by its command.
-#[derive(Clone, Copy)]
-enum CopyCall {
-    // A node alone.
-    Copy,
-    // A whole tree.
-    Clone,
-}
-
-impl CopyCall {
-    fn of(command: &str) -> Option<Self> {
-        match command {
-            "copy" => Some(CopyCall::Copy),
-            "clone" => Some(CopyCall::Clone),
-            _ => None,
-        }
-    }
-}
-
-/// The calls that copy, and those on nodes.
+/// The call of this crate, and those on nodes.
 struct CopyCalls;
 
 impl<D: ScriptSet> Layer<D> for CopyCalls {
     fn run(bench: &mut Bench<D>, line: Line<'_>) -> Result<(), Stop> {
-        match CopyCall::of(line.command) {
-            Some(CopyCall::Copy) => copy(bench, line),
-            Some(CopyCall::Clone) => clone_tree(bench, line),
-            None => NodeCalls::run(bench, line),
+        if line.command == "copy" {
+            return copy(bench, line);
         }
+        if line.command == "clone" {
+            return clone_tree(bench, line);
+        }
+        NodeCalls::run(bench, line)
     }
 }
 

@@ -3,7 +3,7 @@ ghost use Rattle.plir_core.specs.ContextView.{IsLive};
 ghost use Rattle.plir_core.specs.declared.ptr.IRNode.{IRNode as AnyNode};
 ghost use Rattle.plir_copies.specs.Images.{AreImagesLive, images};
 
-use crate::new_names::{name_all, reserve_names};
+use crate::new_names::name_all;
 use plir_copies::{
     ValueMap, clone_block_into, clone_block_tree_into, clone_op_into, clone_tree_into,
 };
@@ -73,7 +73,9 @@ pub fn clone_tree<D: OpSet>(bench: &mut Bench<D>, line: Line<'_>) -> Result<(), 
         return Err(Stop::Refused);
     }
     let room = bench.ctx.num_live() as usize;
-    reserve_names(&mut bench.made, room)?;
+    bench.made.ops.reserve(room)?;
+    bench.made.regions.reserve(room)?;
+    bench.made.blocks.reserve(room)?;
     let copy = match node {
         IRNode::Operation(op) => IRNode::Operation(clone_tree_into(
             bench.alloc,
@@ -91,26 +93,6 @@ pub fn clone_tree<D: OpSet>(bench: &mut Bench<D>, line: Line<'_>) -> Result<(), 
     Ok(())
 }
 
-// What a pair has an image for.
-#[derive(Clone, Copy)]
-enum Mapped {
-    Call,
-    Value,
-    Block,
-}
-
-impl Mapped {
-    fn of(name: &str) -> Self {
-        if name == "call" {
-            Mapped::Call
-        } else if name.contains('.') {
-            Mapped::Value
-        } else {
-            Mapped::Block
-        }
-    }
-}
-
 // The map that pairs make.
 fn read_map<D: OpSet>(
     alloc: Global,
@@ -123,10 +105,12 @@ fn read_map<D: OpSet>(
         let Some((from, to)) = pair.split_once('=') else {
             return Err(Stop::Refused);
         };
-        match Mapped::of(from) {
-            Mapped::Call => map.set_call(made.op(ctx, to)?.loc(ctx)),
-            Mapped::Value => map.map_value(made.value(ctx, from)?, made.value(ctx, to)?)?,
-            Mapped::Block => map.map_block(made.block(ctx, from)?, made.block(ctx, to)?)?,
+        if from == "call" {
+            map.set_call(made.op(ctx, to)?.loc(ctx));
+        } else if from.contains('.') {
+            map.map_value(made.value(ctx, from)?, made.value(ctx, to)?)?;
+        } else {
+            map.map_block(made.block(ctx, from)?, made.block(ctx, to)?)?;
         }
     }
     Ok(map)

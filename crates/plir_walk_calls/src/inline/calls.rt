@@ -3,16 +3,12 @@ use crate::inline::inlining::inline;
 use plir_scripts::{Bench, Layer, Line, Mismatch, NodeCalls, SampleSet, ScriptSet, Stop, play};
 use std::alloc::Global;
 
-fn is_inlining(command: &str) -> bool {
-    command == "inline"
-}
-
-/// The call of an inlining, and those on nodes.
+/// The call of this crate, and those on nodes.
 struct InlineCalls;
 
 impl<D: ScriptSet> Layer<D> for InlineCalls {
     fn run(bench: &mut Bench<D>, line: Line<'_>) -> Result<(), Stop> {
-        if is_inlining(line.command) {
+        if line.command == "inline" {
             return inline(bench, line);
         }
         NodeCalls::run(bench, line)

@@ -3,7 +3,7 @@ ghost use Rattle.std.specs.Prelude.{IfSome};
 ghost use Rattle.plir_core.specs.ContextView.{IsLive};
 ghost use Rattle.plir_core.specs.declared.ptr.IRNode.{IRNode as AnyNode};
 
-use crate::new_names::{name_all, reserve_names};
+use crate::new_names::name_all;
 use plir_core::{BasicBlock, Context, IRNode, Operation, Ptr};
 use plir_data::OpSet;
 use plir_inline::{can_inline, inline_block};
@@ -18,7 +18,9 @@ pub fn inline<D: OpSet>(bench: &mut Bench<D>, line: Line<'_>) -> Result<(), Stop
         return Err(Stop::Refused);
     }
     let room = bench.ctx.num_live() as usize;
-    reserve_names(&mut bench.made, room)?;
+    bench.made.ops.reserve(room)?;
+    bench.made.regions.reserve(room)?;
+    bench.made.blocks.reserve(room)?;
     let over = call.get_parent_block(&bench.ctx);
     let before = call.get_prev(&bench.ctx);
     let behind = call.get_next(&bench.ctx);

@@ -3,7 +3,6 @@ use crate::walk::deep::walks_deep;
 use crate::walk::naming::name;
 use crate::walk::operations::walk_ops;
 use crate::walk::refused::breaks_and_stays;
-use crate::walk::walk_call::{Check, WalkCall};
 use crate::walk::walking::{run_pass, walk, walk_plainly};
 use plir_data::OpSet;
 use plir_scripts::{Bench, Layer, Line, Mismatch, NodeCalls, SampleSet, ScriptSet, Stop, play};
@@ -14,28 +13,28 @@ struct WalkCalls;
 
 impl<D: ScriptSet> Layer<D> for WalkCalls {
     fn run(bench: &mut Bench<D>, line: Line<'_>) -> Result<(), Stop> {
-        match WalkCall::of(line.command) {
-            Some(WalkCall::Walk(walking)) => walk(bench, walking, line),
-            Some(WalkCall::WalkOps(walking)) => walk_ops(bench, walking, line),
-            Some(WalkCall::WalkPlainly(walking)) => walk_plainly(bench, walking, line),
-            Some(WalkCall::Pass) => run_pass(bench, line),
-            Some(WalkCall::Check(check)) => put_check(bench, check, line),
-            Some(WalkCall::Name(naming)) => name(bench, naming, line),
-            None => NodeCalls::run(bench, line),
+        match line.command {
+            "look" | "plainly-look" | "change" | "plainly-change" => walk(bench, line),
+            "look-ops" | "change-ops" => walk_ops(bench, line),
+            "grow" | "unlabel" => walk_plainly(bench, line),
+            "pass" => run_pass(bench, line),
+            "walk-deep" | "walk-refused" => check(bench, line),
+            "set-name" | "insert-name" | "remove-name" | "names" | "erase-names" => {
+                name(bench, line)
+            }
+            _ => NodeCalls::run(bench, line),
         }
     }
 }
 
-// Whether a walk of a deep tree, or one whose calls are refused memory, goes as it should.
-fn holds(alloc: Global, check: Check, line: Line<'_>) -> bool {
-    match check {
-        Check::Deep => walks_deep(alloc, line.first == "limited").unwrap_or(false),
-        Check::Refused => breaks_and_stays(alloc),
-    }
-}
-
-fn put_check<D: OpSet>(bench: &mut Bench<D>, check: Check, line: Line<'_>) -> Result<(), Stop> {
-    bench.answer.put_truth(holds(bench.alloc, check, line));
+// Answers whether a walk of a deep tree, or one whose calls are refused memory, goes as it should.
+fn check<D: OpSet>(bench: &mut Bench<D>, line: Line<'_>) -> Result<(), Stop> {
+    let alloc = bench.alloc;
+    let holds = match line.command {
+        "walk-deep" => walks_deep(alloc, line.first == "limited").unwrap_or(false),
+        _ => breaks_and_stays(alloc),
+    };
+    bench.answer.put_truth(holds);
     Ok(())
 }
 

@@ -2,10 +2,9 @@
 ghost use Rattle.plir_core.specs.ContextView.{IsLive};
 ghost use Rattle.plir_core.specs.declared.ptr.IRNode.{IRNode as AnyNode};
 
-use crate::walk::walk_call::{NameEdit, Naming};
 use plir_core::{BasicBlock, Context, IRNode, Operation, Ptr};
 use plir_data::{Identifier, OpSet};
-use plir_scripts::{Answer, Bench, Line, Stop, label_of, number};
+use plir_scripts::{Bench, Line, Stop, label_of, number};
 use plir_walk::GivenNamesErr;
 use plir_walk::given_names::{
     erase_given_names, get_block_arg_name, get_operation_result_name, insert_block_arg_name,
@@ -16,50 +15,40 @@ use std::alloc::Global;
 
 /// Does what a line says of names: `set-name NODE PLACE NAME`, `insert-name NODE PLACE NAME`, where `-` unsets,
 /// `remove-name NODE PLACE`, `names NODE`, which writes the first four, or `erase-names OP`.
-pub fn name<D: OpSet>(bench: &mut Bench<D>, naming: Naming, line: Line<'_>) -> Result<(), Stop> {
-    match naming {
-        Naming::Show => put_names(bench, line),
-        Naming::Erase => erase_names(bench, line),
-        Naming::Edit(edit) => {
-            let edited = edit_names(bench, edit, line)?;
-            put_edit(&mut bench.answer, edited)
+pub fn name<D: OpSet>(bench: &mut Bench<D>, line: Line<'_>) -> Result<(), Stop> {
+    match line.command {
+        "erase-names" => {
+            let op = bench.made.op(&bench.ctx, line.first)?;
+            erase_given_names(&mut bench.ctx, op);
+            Ok(())
         }
+        "names" => put_names(bench, line),
+        _ => match edit_names(bench, line)? {
+            Ok(()) => Ok(()),
+            Err(GivenNamesErr::GivenNamesIncorrect) => {
+                bench.answer.put("incorrect");
+                Ok(())
+            }
+            Err(GivenNamesErr::Memory) => Err(Stop::Memory),
+        },
     }
-}
-
-fn erase_names<D: OpSet>(bench: &mut Bench<D>, line: Line<'_>) -> Result<(), Stop> {
-    let op = bench.made.op(&bench.ctx, line.first)?;
-    erase_given_names(&mut bench.ctx, op);
-    Ok(())
 }
 
 fn edit_names<D: OpSet>(
     bench: &mut Bench<D>,
-    edit: NameEdit,
     line: Line<'_>,
 ) -> Result<Result<(), GivenNamesErr>, Stop> {
     match bench.made.live(&bench.ctx, line.first)? {
-        IRNode::Operation(op) => edit_op(bench.alloc, &mut bench.ctx, op, edit, line),
-        IRNode::BasicBlock(block) => edit_block(bench.alloc, &mut bench.ctx, block, edit, line),
+        IRNode::Operation(op) => edit_op(bench.alloc, &mut bench.ctx, op, line),
+        IRNode::BasicBlock(block) => edit_block(bench.alloc, &mut bench.ctx, block, line),
         IRNode::Region(_) => Err(Stop::Refused),
     }
-}
-
-// Writes `incorrect` where names are refused.
-fn put_edit(answer: &mut Answer, edited: Result<(), GivenNamesErr>) -> Result<(), Stop> {
-    match edited {
-        Ok(()) => {}
-        Err(GivenNamesErr::GivenNamesIncorrect) => answer.put("incorrect"),
-        Err(GivenNamesErr::Memory) => return Err(Stop::Memory),
-    }
-    Ok(())
 }
 
 fn edit_op<D: OpSet>(
     alloc: Global,
     ctx: &mut Context<D>,
     op: Ptr<Operation>,
-    edit: NameEdit,
     line: Line<'_>,
 ) -> Result<Result<(), GivenNamesErr>, Stop>
     requires { IsLive ctx.old (AnyNode.Operation op) }
@@ -67,16 +56,16 @@ fn edit_op<D: OpSet>(
     let place = number(line.second)?;
     let name = label_of(alloc, line.third)?;
     let count = op.get_num_results(ctx);
-    match edit {
-        NameEdit::Set if place < count => {
+    match line.command {
+        "set-name" if place < count => {
             Ok(set_operation_result_name(alloc, ctx, op, place, name))
         }
-        NameEdit::Insert if place <= count => {
+        "insert-name" if place <= count => {
             Ok(insert_operation_result_name(alloc, ctx, op, place, name))
         }
-        NameEdit::Remove if place < count => Ok(remove_operation_result_name(
-            ctx, op, place,
-        ).map_err(|_| GivenNamesErr::GivenNamesIncorrect)),
+        "remove-name" if place < count => Ok(remove_operation_result_name(ctx, op, place).map_err(
+            |_| GivenNamesErr::GivenNamesIncorrect,
+        )),
         _ => Err(Stop::Refused),
     }
 }
@@ -85,7 +74,6 @@ fn edit_block<D: OpSet>(
     alloc: Global,
     ctx: &mut Context<D>,
     block: Ptr<BasicBlock>,
-    edit: NameEdit,
     line: Line<'_>,
 ) -> Result<Result<(), GivenNamesErr>, Stop>
     requires { IsLive ctx.old (AnyNode.BasicBlock block) }
@@ -93,12 +81,12 @@ fn edit_block<D: OpSet>(
     let place = number(line.second)?;
     let name = label_of(alloc, line.third)?;
     let count = block.get_num_arguments(ctx);
-    match edit {
-        NameEdit::Set if place < count => Ok(set_block_arg_name(alloc, ctx, block, place, name)),
-        NameEdit::Insert if place <= count => Ok(insert_block_arg_name(
+    match line.command {
+        "set-name" if place < count => Ok(set_block_arg_name(alloc, ctx, block, place, name)),
+        "insert-name" if place <= count => Ok(insert_block_arg_name(
             alloc, ctx, block, place, name,
         )),
-        NameEdit::Remove if place < count => Ok(remove_block_arg_name(ctx, block, place).map_err(
+        "remove-name" if place < count => Ok(remove_block_arg_name(ctx, block, place).map_err(
             |_| GivenNamesErr::GivenNamesIncorrect,
         )),
         _ => Err(Stop::Refused),

@@ -7,8 +7,7 @@ ghost use Rattle.plir_walk.specs.Lawful.{Lawful};
 
 use crate::walk::changes::{NOT_DONE, visit};
 use crate::walk::plan::{Plan, read_plan};
-use crate::walk::walk_call::OpsWalking;
-use crate::walk::walking::{config_of, end_walk};
+use crate::walk::walking::{config_of, name_new, put_walk};
 use plir_core::{Context, IRNode, Operation, Ptr};
 use plir_data::OpSet;
 use plir_scripts::{Bench, Line, Stop};
@@ -19,18 +18,14 @@ use std::alloc::Global;
 /// Does what a line says that walks and calls at operations alone: `look-ops SETTING ROOT PLAN` by a callback that only
 /// reads, `change-ops SETTING ROOT PLAN` by one that follows the plan. Writes the called operations and the walk's
 /// answer.
-pub fn walk_ops<D: OpSet>(
-    bench: &mut Bench<D>,
-    walking: OpsWalking,
-    line: Line<'_>,
-) -> Result<(), Stop> {
+pub fn walk_ops<D: OpSet>(bench: &mut Bench<D>, line: Line<'_>) -> Result<(), Stop> {
     let mut called = bench.take_list()?;
     let config = config_of(line.first)?;
     let root = bench.made.live(&bench.ctx, line.second)?;
-    let plan = read_plan(bench.alloc, &bench.made, line.tail)?;
-    let found = match walking {
-        OpsWalking::Look => Ok(look_at_ops(&bench.ctx, &config, root, &plan, &mut called)),
-        OpsWalking::Change => change_ops(
+    let plan = read_plan(bench, line.tail)?;
+    let found = match line.command {
+        "look-ops" => Ok(look_at_ops(&bench.ctx, &config, root, &plan, &mut called)),
+        _ => change_ops(
             bench.alloc,
             &mut bench.ctx,
             &config,
@@ -39,7 +34,10 @@ pub fn walk_ops<D: OpSet>(
             &mut called,
         ),
     };
-    end_walk(bench, called, found)
+    name_new(&mut bench.made, called.as_slice())?;
+    put_walk(&bench.made, &mut bench.answer, called.as_slice(), found);
+    bench.give_back(called);
+    Ok(())
 }
 
 // Walks with a callback that notes its operation and answers by the plan.

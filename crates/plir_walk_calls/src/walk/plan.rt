@@ -1,8 +1,8 @@
 //! What the callback of a walk does, as a text says it.
 use plir_core::{BasicBlock, IRNode, Operation, Ptr};
-use plir_scripts::{Made, Stop, split_word};
+use plir_data::OpSet;
+use plir_scripts::{Bench, Stop, split_word};
 use plir_walk::interruptible::{WalkResult, walk_advance, walk_break, walk_skip};
-use std::alloc::Global;
 
 /// A change at a node or right below it.
 #[derive(Clone, Copy)]
@@ -46,118 +46,52 @@ impl Plan {
     }
 }
 
-// A part of a plan as it is written.
-#[derive(Clone, Copy)]
-enum Clause<'a> {
-    Nothing,
-    // So many calls at most.
-    Limit(u64),
-    // The walk skips what is below the node of this name.
-    Skip(&'a str),
-    // The walk breaks at the node of this name.
-    Break(&'a str),
-    // What is changed at a node: the node's name, and the change.
-    At(&'a str),
-}
-
-impl<'a> Clause<'a> {
-    fn of(text: &'a str) -> Result<Self, Stop> {
-        let (word, rest) = split_word(text);
-        match word {
-            "" => Ok(Clause::Nothing),
-            "limit" => Ok(Clause::Limit(rest.parse::<u64>().map_err(|_| Stop::Refused)?)),
-            "skip" => Ok(Clause::Skip(rest)),
-            "break" => Ok(Clause::Break(rest)),
-            "at" => Ok(Clause::At(rest)),
-            _ => Err(Stop::Refused),
-        }
-    }
-}
-
-// A change as it is written, with the names of the nodes that it is of.
-#[derive(Clone, Copy)]
-enum Verb<'a> {
-    Erase(&'a str),
-    // An operation, and the block that it is moved to.
-    Move(&'a str, &'a str),
-    Append,
-    Add,
-    Clear,
-    Label,
-}
-
-impl<'a> Verb<'a> {
-    fn of(text: &'a str) -> Result<Self, Stop> {
-        let (word, names) = split_word(text);
-        match word {
-            "erase" => Ok(Verb::Erase(names)),
-            "move" => {
-                let (op, block) = split_word(names);
-                Ok(Verb::Move(op, block))
-            }
-            "append" => Ok(Verb::Append),
-            "add" => Ok(Verb::Add),
-            "clear" => Ok(Verb::Clear),
-            "label" => Ok(Verb::Label),
-            _ => Err(Stop::Refused),
-        }
-    }
-}
-
 /// The plan of a text: `limit N`, `skip NODE`, `break NODE`, `at NODE erase OP`, `at NODE move OP BLOCK`, `at
 /// NODE append`, `at NODE add`, `at NODE clear` and `at NODE label`, parted by `, `.
-pub fn read_plan(alloc: Global, made: &Made, text: &str) -> Result<Plan, Stop> {
+pub fn read_plan<D: OpSet>(bench: &Bench<D>, text: &str) -> Result<Plan, Stop> {
     let mut plan = Plan {
-        changes: Vec::new(alloc),
-        skips: Vec::new(alloc),
+        changes: Vec::new(bench.alloc),
+        skips: Vec::new(bench.alloc),
         stop: None,
         limit: u64::MAX,
     };
-    for part in text.split(", ") {
-        match Clause::of(part)? {
-            Clause::Nothing => {}
-            Clause::Limit(limit) => plan.limit = limit,
-            Clause::Skip(name) => plan.skips.push(made.node(name)?)?,
-            Clause::Break(name) => plan.stop = Some(made.node(name)?),
-            Clause::At(change) => plan.changes.push(read_change(made, change)?)?,
+    for clause in text.split(", ") {
+        let (word, rest) = split_word(clause);
+        match word {
+            "" => {}
+            "limit" => plan.limit = rest.parse::<u64>().map_err(|_| Stop::Refused)?,
+            "skip" => plan.skips.push(bench.made.node(rest)?)?,
+            "break" => plan.stop = Some(bench.made.node(rest)?),
+            "at" => plan.changes.push(read_change(bench, rest)?)?,
+            _ => return Err(Stop::Refused),
         }
     }
     Ok(plan)
 }
 
 // A node and the change there.
-fn read_change(made: &Made, text: &str) -> Result<(IRNode, Change), Stop> {
+fn read_change<D: OpSet>(bench: &Bench<D>, text: &str) -> Result<(IRNode, Change), Stop> {
     let (name, rest) = split_word(text);
-    let node = made.node(name)?;
-    let change = match Verb::of(rest)? {
-        Verb::Erase(op) => erasure_of(made, op)?,
-        Verb::Move(op, block) => move_of(made, op, block)?,
-        Verb::Append => appending_to(node)?,
-        Verb::Add => Change::AddRegion,
-        Verb::Clear => Change::EraseRegion,
-        Verb::Label => Change::Label,
+    let node = bench.made.node(name)?;
+    let (word, name) = split_word(rest);
+    let change = match (word, node) {
+        ("erase", _) => match bench.made.node(name)? {
+            IRNode::Operation(op) => Change::EraseOp(op),
+            _ => return Err(Stop::Refused),
+        },
+        ("move", _) => {
+            let (op, block) = split_word(name);
+            match (bench.made.node(op)?, bench.made.node(block)?) {
+                (IRNode::Operation(op), IRNode::BasicBlock(block)) => Change::MoveOp(op, block),
+                _ => return Err(Stop::Refused),
+            }
+        }
+        ("append", IRNode::BasicBlock(_)) => Change::AppendFunc,
+        ("append", IRNode::Region(_)) => Change::AppendBlock,
+        ("add", _) => Change::AddRegion,
+        ("clear", _) => Change::EraseRegion,
+        ("label", _) => Change::Label,
+        _ => return Err(Stop::Refused),
     };
     Ok((node, change))
-}
-
-fn erasure_of(made: &Made, op: &str) -> Result<Change, Stop> {
-    match made.node(op)? {
-        IRNode::Operation(op) => Ok(Change::EraseOp(op)),
-        _ => Err(Stop::Refused),
-    }
-}
-
-fn move_of(made: &Made, op: &str, block: &str) -> Result<Change, Stop> {
-    match (made.node(op)?, made.node(block)?) {
-        (IRNode::Operation(op), IRNode::BasicBlock(block)) => Ok(Change::MoveOp(op, block)),
-        _ => Err(Stop::Refused),
-    }
-}
-
-fn appending_to(node: IRNode) -> Result<Change, Stop> {
-    match node {
-        IRNode::BasicBlock(_) => Ok(Change::AppendFunc),
-        IRNode::Region(_) => Ok(Change::AppendBlock),
-        IRNode::Operation(_) => Err(Stop::Refused),
-    }
 }

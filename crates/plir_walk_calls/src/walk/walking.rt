@@ -10,7 +10,6 @@ use crate::walk::from_any::{changing, changing_plainly};
 use crate::walk::growing::{grow, unlabel};
 use crate::walk::pass::{module_with_function, note, reshape};
 use crate::walk::plan::{Plan, read_plan};
-use crate::walk::walk_call::{PlainWalking, Walking};
 use plir_core::{Context, IRNode};
 use plir_data::OpSet;
 use plir_scripts::{Answer, Bench, Line, Made, ScriptSet, Stop};
@@ -26,18 +25,18 @@ use std::ops::ControlFlow;
 /// Does what a line says that walks: `look SETTING ROOT PLAN` and `plainly-look SETTING ROOT PLAN` by a callback that
 /// only reads, `change SETTING ROOT PLAN` and `plainly-change SETTING ROOT PLAN` by one that follows the plan. Writes
 /// the called nodes and the walk's answer. Nodes that the walk has made are named as they are called.
-pub fn walk<D: OpSet>(bench: &mut Bench<D>, walking: Walking, line: Line<'_>) -> Result<(), Stop> {
+pub fn walk<D: OpSet>(bench: &mut Bench<D>, line: Line<'_>) -> Result<(), Stop> {
     let mut called = bench.take_list()?;
     let config = config_of(line.first)?;
     let root = bench.made.live(&bench.ctx, line.second)?;
-    let plan = read_plan(bench.alloc, &bench.made, line.tail)?;
-    let found = match walking {
-        Walking::Look => Ok(look_at(&bench.ctx, &config, root, &plan, &mut called)),
-        Walking::PlainlyLook => {
+    let plan = read_plan(bench, line.tail)?;
+    let found = match line.command {
+        "look" => Ok(look_at(&bench.ctx, &config, root, &plan, &mut called)),
+        "plainly-look" => {
             look_plainly(&bench.ctx, &config, root, &mut called);
             Ok(walk_advance())
         }
-        Walking::Change => change(
+        "change" => change(
             bench.alloc,
             &mut bench.ctx,
             &config,
@@ -45,7 +44,7 @@ pub fn walk<D: OpSet>(bench: &mut Bench<D>, walking: Walking, line: Line<'_>) ->
             &plan,
             &mut called,
         ),
-        Walking::PlainlyChange => change_plainly(
+        _ => change_plainly(
             bench.alloc,
             &mut bench.ctx,
             &config,
@@ -54,14 +53,21 @@ pub fn walk<D: OpSet>(bench: &mut Bench<D>, walking: Walking, line: Line<'_>) ->
             &mut called,
         ),
     };
-    end_walk(bench, called, found)
+    name_new(&mut bench.made, called.as_slice())?;
+    put_walk(&bench.made, &mut bench.answer, called.as_slice(), found);
+    bench.give_back(called);
+    Ok(())
 }
 
 /// A setting: `pre-fwd` and its kin, or three of them for the regions of operations, the operations of blocks and the
 /// blocks of regions, parted by `/`.
 pub fn config_of(word: &str) -> Result<WalkConfig, Stop> {
-    if let Ok(pair) = pair_of(word) {
-        return Ok(plain_config(pair));
+    match word {
+        "pre-fwd" => return Ok(WALKCONFIG_PREORDER_FORWARD),
+        "post-fwd" => return Ok(WALKCONFIG_POSTORDER_FORWARD),
+        "pre-rev" => return Ok(WALKCONFIG_PREORDER_REVERSE),
+        "post-rev" => return Ok(WALKCONFIG_POSTORDER_REVERSE),
+        _ => {}
     }
     let (regions, rest) = word.split_once('/').ok_or(Stop::Refused)?;
     let (ops, blocks) = rest.split_once('/').ok_or(Stop::Refused)?;
@@ -70,16 +76,6 @@ pub fn config_of(word: &str) -> Result<WalkConfig, Stop> {
         ops_in_block: pair_of(ops)?,
         blocks_in_region: pair_of(blocks)?,
     })
-}
-
-// The setting with one pair for all.
-fn plain_config(pair: (Order, Direction)) -> WalkConfig {
-    match pair {
-        (Order::PreOrder, Direction::Forward) => WALKCONFIG_PREORDER_FORWARD,
-        (Order::PostOrder, Direction::Forward) => WALKCONFIG_POSTORDER_FORWARD,
-        (Order::PreOrder, Direction::Reverse) => WALKCONFIG_PREORDER_REVERSE,
-        (Order::PostOrder, Direction::Reverse) => WALKCONFIG_POSTORDER_REVERSE,
-    }
 }
 
 fn pair_of(word: &str) -> Result<(Order, Direction), Stop> {
@@ -94,19 +90,18 @@ fn pair_of(word: &str) -> Result<(Order, Direction), Stop> {
 
 /// Does what a line says that walks under an operation: `grow SETTING OP` gives each called operation a region,
 /// `unlabel SETTING OP` takes the label from each called block. Writes the called nodes and the walk's answer.
-pub fn walk_plainly<D: OpSet>(
-    bench: &mut Bench<D>,
-    walking: PlainWalking,
-    line: Line<'_>,
-) -> Result<(), Stop> {
-    let mut called = bench.take_list()?;
+pub fn walk_plainly<D: OpSet>(bench: &mut Bench<D>, line: Line<'_>) -> Result<(), Stop> {
     let config = config_of(line.first)?;
     let root = bench.made.op(&bench.ctx, line.second)?;
-    let found = match walking {
-        PlainWalking::Grow => grow(&mut bench.ctx, &config, root, &mut called),
-        PlainWalking::Unlabel => unlabel(&mut bench.ctx, &config, root, &mut called),
+    let mut called = Vec::new(bench.alloc);
+    called.reserve(32)?;
+    let found = match line.command {
+        "grow" => grow(&mut bench.ctx, &config, root, &mut called),
+        _ => unlabel(&mut bench.ctx, &config, root, &mut called),
     };
-    end_walk(bench, called, found)
+    name_new(&mut bench.made, called.as_slice())?;
+    put_walk(&bench.made, &mut bench.answer, called.as_slice(), found);
+    Ok(())
 }
 
 /// Walks with a callback that notes its node and answers by the plan.
@@ -198,28 +193,19 @@ fn change_plainly<D: OpSet>(
 /// the module prints.
 pub fn run_pass<D: ScriptSet>(bench: &mut Bench<D>, line: Line<'_>) -> Result<(), Stop> {
     let kind = D::own_kind(line.first).ok_or(Stop::Refused)?;
-    let mut called = bench.take_list()?;
+    let mut called = Vec::new(bench.alloc);
+    called.reserve(32)?;
     let module = module_with_function(bench.alloc, &mut bench.ctx, kind)?;
     let printed = note(bench.alloc, &mut bench.ctx, module, line.tail).ok_or(Stop::Refused)?;
     bench.answer.put(&printed);
     let found = reshape(bench.alloc, &mut bench.ctx, module, &mut called);
-    end_walk(bench, called, found)
-}
-
-/// Names the called nodes that have no name, writes all and the walk's answer, and gives the list of them back.
-pub fn end_walk<D: OpSet>(
-    bench: &mut Bench<D>,
-    called: Vec<IRNode>,
-    found: Result<WalkResult<u32>, CallLimit>,
-) -> Result<(), Stop> {
     name_new(&mut bench.made, called.as_slice())?;
     put_walk(&bench.made, &mut bench.answer, called.as_slice(), found);
-    bench.give_back(called);
     Ok(())
 }
 
-// Names the called nodes that have no name.
-fn name_new(made: &mut Made, called: &[IRNode]) -> Result<(), Stop> {
+/// Names the called nodes that have no name.
+pub fn name_new(made: &mut Made, called: &[IRNode]) -> Result<(), Stop> {
     for node in called {
         match node {
             IRNode::Operation(op) if !made.ops.contains(op) => made.ops.push(*op)?,
@@ -231,8 +217,8 @@ fn name_new(made: &mut Made, called: &[IRNode]) -> Result<(), Stop> {
     Ok(())
 }
 
-// Writes the names of the called nodes, and the walk's answer.
-fn put_walk(
+/// Writes the names of the called nodes, and the walk's answer.
+pub fn put_walk(
     made: &Made,
     answer: &mut Answer,
     called: &[IRNode],
