@@ -12,38 +12,15 @@ use plir_scripts::{Bench, Line, Stop};
 use plir_walk::GivenNamesErr;
 use plir_walk::given_names::{set_block_arg_name, set_operation_result_name};
 
-/// Which builtin operation a line makes.
-#[derive(Clone, Copy)]
-pub enum Maker {
-    /// `module NAME`.
-    Module,
-    /// `func NAME TYPE`.
-    Func,
-    /// `constant ATTRIBUTE`.
-    Constant,
-}
-
-impl Maker {
-    /// The operation that this word makes, if it makes one.
-    pub fn of(word: &str) -> Option<Maker> {
-        match word {
-            "module" => Some(Maker::Module),
-            "func" => Some(Maker::Func),
-            "constant" => Some(Maker::Constant),
-            _ => None,
-        }
-    }
-}
-
-/// Makes what a line says and writes its name.
-pub fn make<D: OpSet>(bench: &mut Bench<D>, maker: Maker, line: Line<'_>) -> Result<(), Stop> {
+/// Makes what a line says and writes its name: `module NAME`, `func NAME TYPE` or `constant ATTRIBUTE`.
+pub fn make<D: OpSet>(bench: &mut Bench<D>, line: Line<'_>) -> Result<(), Stop> {
     bench.made.ops.reserve(1)?;
     bench.made.regions.reserve(1)?;
     bench.made.blocks.reserve(1)?;
-    let op = match maker {
-        Maker::Module => new_module(bench, line)?,
-        Maker::Func => new_func(bench, line)?,
-        Maker::Constant => new_constant(bench, line)?,
+    let op = match line.command {
+        "module" => new_module(bench, line)?,
+        "func" => new_func(bench, line)?,
+        _ => new_constant(bench, line)?,
     };
     note_tree(bench, op)?;
     bench.made.put_op(&mut bench.answer, Some(op));
